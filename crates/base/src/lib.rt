@@ -1,0 +1,15 @@
+// What every part shares: the refusals of document 01 with their numbers, the two bytes of a word,
+// and the two ways of counting along a program.
+mod counts;
+mod halves;
+mod refusals;
+
+pub use counts::ByteAddress;
+pub use counts::InstructionIndex;
+pub use counts::byte_address;
+pub use halves::high;
+pub use halves::low;
+pub use halves::word;
+pub use refusals::Answer;
+pub use refusals::Refusal;
+pub use refusals::number;
