@@ -1,0 +1,128 @@
+-- What the crates above may use of places and of a valid map, without opening the definitions (KeptLaws.antt has the rest). Assumes nothing.
+use mathlib.Core.Path.{_≡_, refl, sym, ap, subst, _∙_}
+use mathlib.Core.Bool.{Bool, true, false, not, _&&_, _||_, or-comm, and-comm}
+use mathlib.Core.List.{List, [], _∷_, _++_}
+use Prim.Native.Nat.{ℕ, _+_, _≤_, _<_}
+use native.Mathlib.Omega.{arith}
+use lib.Dec.{ltb, leb, eqb}
+use lib.ListN.{length, set, take, drop, length-set}
+use borrow.Author.Tests.{leb-true, le-leb, le-ltb, lt-leb}
+use Rattle.base.specs.Choice.{cond}
+use Rattle.map.specs.Tables.{any, sound}
+use Rattle.map.specs.Regions.{regionsOverlap, regionInRange, regionIsSet, usedRegions, spareRegions, protected}
+use Rattle.map.specs.Devices.{deviceCovers, deviceSize, devicesOverlap, deviceForward, deviceIsSet, usedDevices, spareDevices, total}
+use Rattle.map.specs.Places.{inLinear, placeFrom, place, guard, target, somewhere}
+use Rattle.map.specs.Valid.{validRegions, validDevices, valid}
+use Rattle.map.specs.Entries.{region, device, emptyMap, withRegion, regionNumber, regionMap, protectNumber, protectMap, withDevice, deviceNumber, deviceMap, registerNumber, registerMap}
+use Rattle.map.specs.declared.Region.{Region}
+use Rattle.map.specs.declared.Device.{Device}
+use Rattle.map.specs.declared.Map.{Map}
+use Rattle.map.specs.declared.Place.{Place}
+use Rattle.map.specs.declared.Place.the-variants.{Linear, Bank, Nowhere}
+use Rattle.map.proofs.Tests.{first, second, third}
+use Rattle.map.proofs.PlaceLaws.{SameByte, Within, from-within, from-linear, from-one, from-covered, from-uncovered}
+
+-- ---- places
+
+-- which places are somewhere
+pub linear-somewhere : (i : ℕ) → somewhere (Linear i) ≡ true
+unfolding somewhere
+linear-somewhere i = refl
+
+pub bank-somewhere : (n o i : ℕ) → somewhere (Bank n o i) ≡ true
+unfolding somewhere
+bank-somewhere n o i = refl
+
+pub nowhere-not : somewhere Nowhere ≡ false
+unfolding somewhere
+nowhere-not = refl
+
+module _ (m : Map) (mem dev : ℕ) where
+  -- a place is within the bytes that are lent
+  pub place-within : (a : ℕ) → Within (place m mem dev a) mem dev
+  unfolding place
+  place-within a = from-within mem dev (usedDevices m) 0 0 a
+
+  -- two addresses with one byte are one address
+  pub place-one : (a b : ℕ) → SameByte (place m mem dev a) (place m mem dev b) → a ≡ b
+  unfolding place
+  place-one a b = go (placeFrom (usedDevices m) 0 0 mem dev a) (placeFrom (usedDevices m) 0 0 mem dev b) refl refl
+    where
+      go : (p q : Place) → placeFrom (usedDevices m) 0 0 mem dev a ≡ p → placeFrom (usedDevices m) 0 0 mem dev b ≡ q → SameByte p q → a ≡ b
+      go (Linear i) (Linear j) e f h = from-linear mem dev (usedDevices m) 0 0 a i e ∙ h ∙ sym (from-linear mem dev (usedDevices m) 0 0 b j f)
+      go (Linear i) (Bank n o j) e f h = absurd h
+      go (Linear i) Nowhere e f h = absurd h
+      go (Bank n o i) (Linear j) e f h = absurd h
+      go (Bank n o i) (Bank k q j) e f h = from-one mem dev (usedDevices m) 0 0 a b n o k q j (e ∙ ap (Bank n o) h) f
+      go (Bank n o i) Nowhere e f h = absurd h
+      go Nowhere q e f h = absurd h
+
+  -- a store that has a place to go to goes where the byte is
+  pub target-place : (a : ℕ) → somewhere (target m mem dev a) ≡ true → target m mem dev a ≡ place m mem dev a
+  unfolding target guard somewhere
+  target-place a = go (protected m a) (place m mem dev a)
+    where
+      go : (t : Bool) (p : Place) → somewhere (guard t p) ≡ true → guard t p ≡ p
+      go true (Linear i) e = absurd (let z : _≡_ {A = ℕ} 0 1 = cc in omega arith)
+      go false (Linear i) e = refl
+      go t (Bank n o i) e = refl
+      go t Nowhere e = refl
+
+-- ---- a valid map
+
+module _ (m : Map) (dev : List ℕ) (v : valid m dev ≡ true) where
+  -- its parts
+  pub valid-regions : validRegions m ≡ true
+  unfolding valid
+  valid-regions = first (validRegions m) (validDevices m) (leb (total (usedDevices m)) (length dev)) v
+
+  pub valid-devices : validDevices m ≡ true
+  unfolding valid
+  valid-devices = second (validRegions m) (validDevices m) (leb (total (usedDevices m)) (length dev)) v
+
+  pub valid-room : total (usedDevices m) ≤ length dev
+  unfolding valid
+  valid-room = leb-true (total (usedDevices m)) (length dev) (third (validRegions m) (validDevices m) (leb (total (usedDevices m)) (length dev)) v)
+
+  -- address a is mapped if a device covers it or a < memory length
+  pub mapped-rule : (mem a : ℕ) → somewhere (place m mem (length dev) a) ≡ (any (deviceCovers a) (usedDevices m) || ltb a mem)
+  unfolding place somewhere inLinear
+  mapped-rule mem a = go (any (deviceCovers a) (usedDevices m)) refl
+    where
+      linear : (t : Bool) → somewhere (cond t (Linear a) Nowhere) ≡ t
+      linear true = refl
+      linear false = refl
+
+      go : (t : Bool) → any (deviceCovers a) (usedDevices m) ≡ t → somewhere (placeFrom (usedDevices m) 0 0 mem (length dev) a) ≡ (t || ltb a mem)
+      go true e = let f = from-covered mem (length dev) (usedDevices m) 0 0 a (omega (arith, valid-room)) e in rw (f .3)
+      go false e = rw (from-uncovered mem (length dev) (usedDevices m) 0 0 a e) (linear (ltb a mem))
+
+  -- a store succeeds if a device covers a, or a is mapped and not protected
+  pub takes-rule : (mem a : ℕ) → somewhere (target m mem (length dev) a) ≡ (any (deviceCovers a) (usedDevices m) || (ltb a mem && not (protected m a)))
+  unfolding target place guard somewhere inLinear
+  takes-rule mem a = go (any (deviceCovers a) (usedDevices m)) refl
+    where
+      linear : (t u : Bool) → somewhere (guard u (cond t (Linear a) Nowhere)) ≡ (t && not u)
+      linear true true = refl
+      linear true false = refl
+      linear false true = refl
+      linear false false = refl
+
+      go : (t : Bool) → any (deviceCovers a) (usedDevices m) ≡ t → somewhere (guard (protected m a) (placeFrom (usedDevices m) 0 0 mem (length dev) a)) ≡ (t || (ltb a mem && not (protected m a)))
+      go true e = let f = from-covered mem (length dev) (usedDevices m) 0 0 a (omega (arith, valid-room)) e in rw (f .3)
+      go false e = rw (from-uncovered mem (length dev) (usedDevices m) 0 0 a e) (linear (ltb a mem) (protected m a))
+
+-- of the device buffer only its length matters
+pub valid-length : (m : Map) (dev dev₁ : List ℕ) → length dev ≡ length dev₁ → valid m dev ≡ valid m dev₁
+unfolding valid
+valid-length m dev dev₁ e = rw e
+
+-- no region and no device is valid over any buffer
+pub empty-valid : (dev : List ℕ) → valid emptyMap dev ≡ true
+unfolding valid validRegions validDevices usedRegions spareRegions usedDevices spareDevices total any sound regionIsSet deviceIsSet
+empty-valid dev = le-leb 0 (length dev) (omega arith)
+
+-- ---- adding a region that ends in range to a table with room: only 13 is left
+pub region-last : (m : Map) (r : Region) → r .start + r .len ≤ 65535 → m .regions < 8 → regionNumber m r ≡ cond (any (regionsOverlap r) (usedRegions m)) 13 0
+unfolding regionNumber
+region-last m r h f = rw (le-ltb (65535) (r .start + r .len) h, lt-leb 8 (m .regions) f)

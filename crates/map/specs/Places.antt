@@ -1,0 +1,45 @@
+-- Where the byte of an address is, and where a store to it goes.
+use Prim.Native.Nat.{ℕ, _+_, _-_}
+use mathlib.Core.Bool.{Bool, true, false}
+use mathlib.Core.List.{List, [], _∷_}
+use lib.Dec.{ltb}
+use Rattle.base.specs.Choice.{cond}
+use Rattle.map.specs.Regions.{protected}
+use Rattle.map.specs.Devices.{deviceCovers, deviceSize, usedDevices}
+use Rattle.map.specs.declared.Device.{Device}
+use Rattle.map.specs.declared.Map.{Map}
+use Rattle.map.specs.declared.Place.{Place}
+use Rattle.map.specs.declared.Place.the-variants.{Linear, Bank, Nowhere}
+
+-- a < memory length
+unfoldable pub inLinear : ℕ → ℕ → Place
+inLinear mem a = cond (ltb a mem) (Linear a) Nowhere
+
+-- the byte at an offset from a device's start, where the device's bytes start at base. In a valid map each such byte is within the device buffer
+unfoldable pub inBank : ℕ → ℕ → ℕ → ℕ → Place
+inBank number offset base dev = cond (ltb (base + offset) dev) (Bank number offset (base + offset)) Nowhere
+
+-- the first device that covers a has its byte, else linear memory has it. The first of these devices has this number, and its bytes start at base; those of the next follow
+unfoldable pub placeFrom : List Device → ℕ → ℕ → ℕ → ℕ → ℕ → Place
+placeFrom [] number base mem dev a = inLinear mem a
+placeFrom (d ∷ rest) number base mem dev a =
+    cond (deviceCovers a d) (inBank number (a - d .start) base dev) (placeFrom rest (number + 1) (base + deviceSize d) mem dev a)
+
+-- where the byte of address a is, with mem bytes of linear memory and dev bytes in the device buffer
+unfoldable pub place : Map → ℕ → ℕ → ℕ → Place
+place m mem dev a = placeFrom (usedDevices m) 0 0 mem dev a
+
+-- a protected linear byte takes no store
+unfoldable pub guard : Bool → Place → Place
+guard shut (Linear i) = cond shut Nowhere (Linear i)
+guard shut (Bank n o i) = Bank n o i
+guard shut Nowhere = Nowhere
+
+-- where a store to address a goes
+unfoldable pub target : Map → ℕ → ℕ → ℕ → Place
+target m mem dev a = guard (protected m a) (place m mem dev a)
+
+unfoldable pub somewhere : Place → Bool
+somewhere (Linear i) = true
+somewhere (Bank n o i) = true
+somewhere Nowhere = false
