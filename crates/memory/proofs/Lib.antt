@@ -1,0 +1,7 @@
+pub mod Programs
+pub mod Copies
+pub mod ByteLaws
+pub mod Laws
+pub mod WordLaws
+pub mod ProgramLaws
+pub mod AnswerLaws

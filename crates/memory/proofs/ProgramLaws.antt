@@ -1,0 +1,71 @@
+-- What the crates above may use of a load: lengths stay, valid tables stay valid, and at its end only 13 is left. Assumes nothing.
+use mathlib.Core.Path.{_≡_, refl, sym, ap, _∙_}
+use mathlib.Core.Bool.{Bool, true, false, _&&_}
+use mathlib.Core.List.{List, [], _∷_}
+use Prim.Native.Nat.{ℕ, _+_, _≤_, _<_}
+use native.Mathlib.Omega.{arith}
+use lib.ListN.{length}
+use borrow.Author.Tests.{leb-true, ltb-true, le-ltb, lt-leb}
+use lib.Dec.{leb, ltb}
+use Rattle.base.specs.Choice.{cond}
+use Rattle.base.specs.Words.{doubled}
+use Rattle.map.specs.Tables.{any}
+use Rattle.map.specs.Regions.{regionsOverlap, usedRegions}
+use Rattle.map.specs.Valid.{valid}
+use Rattle.map.specs.Entries.{region, regionNumber, regionMap}
+use Rattle.map.specs.declared.Map.{Map}
+use Rattle.map.proofs.Tests.{first, second, third}
+use Rattle.map.proofs.Laws.{valid-length, region-last}
+use Rattle.map.proofs.KeptLaws.{Eight, eight-region, region-kept}
+use Rattle.memory.specs.Bytes.{Lent}
+use Rattle.memory.specs.Words.{wordStored, storeWord, isDone}
+use Rattle.memory.specs.Program.{Words, words, storeWords, loadNumber, begins, loadBytes, loadMap}
+use Rattle.memory.proofs.Laws.{SameLengths, same-lengths, then-lengths}
+use Rattle.memory.proofs.WordLaws.{word-lengths}
+
+pub words-lengths : (m : Map) (program : List ℕ) (s : Lent) (i : ℕ) → SameLengths (storeWords m s i program .bytes) s
+unfolding storeWords
+words-lengths m [] s i = same-lengths s
+words-lengths m (w ∷ rest) s i = go (isDone (wordStored m s (doubled i) w)) (words-lengths m rest (storeWord m s (doubled i) w) (i + 1))
+  where
+    go : (t : Bool) → SameLengths (storeWords m (storeWord m s (doubled i) w) (i + 1) rest .bytes) (storeWord m s (doubled i) w) → SameLengths (cond t (storeWords m (storeWord m s (doubled i) w) (i + 1) rest) (words false (storeWord m s (doubled i) w)) .bytes) s
+    go true r = then-lengths r (word-lengths m s (doubled i) w)
+    go false r = word-lengths m s (doubled i) w
+
+module _ (m : Map) (s : Lent) (program : List ℕ) where
+  -- a load changes no length
+  pub load-lengths : SameLengths (loadBytes m s program) s
+  unfolding loadBytes
+  load-lengths = go (begins m s program)
+    where
+      go : (t : Bool) → SameLengths (cond t (storeWords m s 0 program .bytes) s) s
+      go true = words-lengths m program s 0
+      go false = same-lengths s
+
+  module _ (e : Eight m) where
+    -- the tables keep their eight entries
+    pub eight-load : Eight (loadMap m s program)
+    unfolding loadMap
+    eight-load = go (begins m s program && storeWords m s 0 program .all)
+      where
+        go : (t : Bool) → Eight (cond t (regionMap m (region 0 (length program))) m)
+        go true = eight-region m e (region 0 (length program))
+        go false = e
+
+    -- and stay valid
+    pub load-kept : valid m (s .dev) ≡ true → valid (loadMap m s program) (loadBytes m s program .dev) ≡ true
+    unfolding loadMap
+    load-kept v = valid-length (loadMap m s program) (loadBytes m s program .dev) (s .dev) (load-lengths .dev) ∙ go (begins m s program && storeWords m s 0 program .all)
+      where
+        go : (t : Bool) → valid (cond t (regionMap m (region 0 (length program))) m) (s .dev) ≡ true
+        go true = region-kept m e (s .dev) v (region 0 (length program))
+        go false = v
+
+  -- once every word is stored, the answer is 13 where the new region overlaps one, else accepted
+  pub load-last : begins m s program ≡ true → storeWords m s 0 program .all ≡ true → loadNumber m s program ≡ cond (any (regionsOverlap (region 0 (length program))) (usedRegions m)) 13 0
+  unfolding loadNumber begins
+  load-last b g =
+      let v = first (valid m (s .dev)) (leb (length program) 32768) (ltb (m .regions) 8) b in
+      let h = leb-true (length program) 32768 (second (valid m (s .dev)) (leb (length program) 32768) (ltb (m .regions) 8) b) in
+      let f = ltb-true (m .regions) 8 (third (valid m (s .dev)) (leb (length program) 32768) (ltb (m .regions) 8) b) in
+      rw (v, le-ltb 32768 (length program) h, lt-leb 8 (m .regions) f, g) (region-last m (region 0 (length program)) (omega arith) f)

@@ -1,0 +1,28 @@
+-- The one test is the definition's. Assumes nothing.
+use mathlib.Core.Path.{_≡_, refl, sym, ap, _∙_}
+use borrow.Author.Tests.{not-true, not-false}
+use Rattle.memory.specs.Words.{highDecision}
+use borrow.Author.Needs.{needs}
+use Rattle.memory.proofs.words.decide_high.Statement.{statement}
+use Rattle.memory.proofs.words.decide_high.Tie as tie
+
+target-of-requires : tie.Need-target-of-requires
+target-of-requires c κs = search needs
+
+is-somewhere-requires : tie.Need-is-somewhere-requires
+is-somewhere-requires c κs = search needs
+
+returns : tie.Need-returns
+unfolding highDecision
+returns c = rw (← c .before .before .target-of .ensures, sym (c .before .is-somewhere .ensures) ∙ not-true _ (c .if1 .taken))
+
+high-requires : tie.Need-high-requires
+high-requires c κs = search needs
+
+returns-2 : tie.Need-returns-2
+unfolding highDecision
+returns-2 c = rw (← c .before .before .before .target-of .ensures, sym (c .before .before .is-somewhere .ensures) ∙ not-false _ (c .before .if1 .left), c .high .ensures)
+
+pub decide-high-spec : {M : Type 1} → statement M
+decide-high-spec =
+    tie.close (tie.spec target-of-requires is-somewhere-requires returns high-requires returns-2)

@@ -1,0 +1,53 @@
+-- Reading memory out: 12, 19, then bytes up to the first unmapped one and their count; later buffer bytes stay.
+use Prim.Native.Nat.{ℕ, zero, suc, _+_}
+use mathlib.Core.Bool.{Bool}
+use mathlib.Core.List.{List, [], _∷_, _++_}
+use lib.Dec.{ltb, eqb}
+use lib.ListN.{length, drop}
+use Rattle.base.specs.Choice.{cond}
+use Rattle.base.specs.Numbers.{numberOf}
+use Rattle.map.specs.Valid.{valid}
+use Rattle.map.specs.declared.Map.{Map}
+use Rattle.memory.specs.declared.Read.{Read}
+use Rattle.memory.specs.declared.Read.the-variants.{Byte, Unmapped}
+use Rattle.memory.specs.declared.ReadOut.{ReadOut}
+use Rattle.memory.specs.declared.ReadOut.the-variants.{Count, Refused}
+use Rattle.memory.specs.Bytes.{Lent, readByte}
+
+-- a byte that was read, before those after it; nothing from an unmapped one on
+unfoldable pub onward : Read → List ℕ → List ℕ
+onward (Byte v p) rest = v ∷ rest
+onward Unmapped rest = []
+
+-- the bytes from address a on, at most n, up to the first unmapped one
+unfoldable pub readBytes : Map → Lent → ℕ → ℕ → List ℕ
+readBytes m s a zero = []
+readBytes m s a (suc n) = onward (readByte m s a) (readBytes m s (a + 1) n)
+
+-- bytes at the start of a buffer
+unfoldable pub over : List ℕ → List ℕ → List ℕ
+over bytes buffer = bytes ++ drop (length bytes) buffer
+
+-- 01's number of an answer, 0 where it is accepted, and its count
+pub record Counted : Type 0 where
+  pub number : ℕ
+  pub count : ℕ
+
+abbrev pub numbered : ℕ → ℕ → Counted
+numbered n k = record { number = n; count = k }
+
+abbrev pub counted : ReadOut → Counted
+counted (Count n) = numbered 0 n
+counted (Refused r) = numbered (numberOf r) 0
+
+-- with room bytes in the buffer: 1, 12, 19
+unfoldable pub readOut : Map → Lent → ℕ → ℕ → ℕ → Counted
+readOut m s start size room =
+    cond (valid m (s .dev))
+    (cond (ltb 65535 (start + size)) (numbered 12 0)
+    (cond (ltb room size) (numbered 19 0)
+    (numbered 0 (length (readBytes m s start size))))) (numbered 1 0)
+
+unfoldable pub readOutBuffer : Map → Lent → ℕ → ℕ → List ℕ → List ℕ
+readOutBuffer m s start size buffer =
+    cond (eqb (readOut m s start size (length buffer) .number) 0) (over (readBytes m s start size) buffer) buffer

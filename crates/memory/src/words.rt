@@ -1,0 +1,108 @@
+// A word: two bytes, the low one first.
+use crate::Change;
+use crate::Changes;
+use crate::Decision;
+use crate::Read;
+use crate::Stored;
+use crate::WordRead;
+use crate::bytes::read_byte;
+use crate::bytes::store_at;
+use base::Refusal;
+use map::Map;
+ghost use mathlib.Core.Path.{_≡_};
+ghost use Rattle.memory.specs.Bytes.{lent};
+ghost use Rattle.memory.specs.Words.{readWord, wordDecision, highDecision, made, wordStored, storeWord};
+
+pub fn read_word(m: Map, mem: &[u8], dev: &[u8], a: u16) -> WordRead
+    ensures { λ r. ⌜ r ≡ readWord m (lent (now (mem .entry)) (now (dev .entry))) a ⌝ }
+{
+    match read_byte(m, mem, dev, a) {
+        Read::Byte(low, _) => {
+            if a == 65535 {
+                return WordRead::Refused(Refusal::AddressOverflow);
+            }
+            match read_byte(m, mem, dev, a + 1) {
+                Read::Byte(high, _) => WordRead::Word(base::word(low, high)),
+                Read::Unmapped => WordRead::NoWord,
+            }
+        }
+        Read::Unmapped => WordRead::NoWord,
+    }
+}
+
+// What storing a word comes to, with mem bytes of linear memory and dev bytes in the device buffer.
+pub fn decide_word(m: Map, mem: usize, dev: usize, a: u16, w: u16) -> Decision
+    ensures { λ d. ⌜ d ≡ wordDecision m mem dev a w ⌝ }
+{
+    let place = map::target_of(m, mem, dev, a);
+    if !map::is_somewhere(place) {
+        return Decision {
+            outcome: Stored::Failed,
+            changes: Changes::Nothing,
+        };
+    }
+    if a == 65535 {
+        return Decision {
+            outcome: Stored::Refused(Refusal::AddressOverflow),
+            changes: Changes::Nothing,
+        };
+    }
+    let first = Change {
+        address: a,
+        place,
+        byte: base::low(w),
+    };
+    decide_high(m, mem, dev, a + 1, w, first)
+}
+
+// The same, once the low byte is known to be taken and the high byte to have an address.
+fn decide_high(m: Map, mem: usize, dev: usize, a: u16, w: u16, first: Change) -> Decision
+    ensures { λ d. ⌜ d ≡ highDecision m mem dev a w first ⌝ }
+{
+    let place = map::target_of(m, mem, dev, a);
+    if !map::is_somewhere(place) {
+        return Decision {
+            outcome: Stored::Failed,
+            changes: Changes::One(first),
+        };
+    }
+    let second = Change {
+        address: a,
+        place,
+        byte: base::high(w),
+    };
+    Decision {
+        outcome: Stored::Done,
+        changes: Changes::Two(first, second),
+    }
+}
+
+// Makes the stores that were decided.
+pub fn make(c: Changes, mem: &mut [u8], dev: &mut [u8])
+    ensures { λ _. ⌜ lent (now (mem .exit)) (now (dev .exit)) ≡ made c (lent (now (mem .entry)) (now (dev .entry))) ⌝ }
+{
+    match c {
+        Changes::Nothing => {}
+        Changes::One(x) => {
+            let p = x.place;
+            store_at(p, mem, dev, x.byte);
+        }
+        Changes::Two(x, y) => {
+            let p = x.place;
+            store_at(p, mem, dev, x.byte);
+            let q = y.place;
+            store_at(q, mem, dev, y.byte);
+        }
+    }
+}
+
+// Stores a word, low byte first; where the high byte takes no store the low one stays.
+pub fn store_word(m: Map, mem: &mut [u8], dev: &mut [u8], a: u16, w: u16) -> Stored
+    ensures { λ r. ⌜ r ≡ wordStored m (lent (now (mem .entry)) (now (dev .entry))) a w ⌝ }
+    ensures { λ _. ⌜ lent (now (mem .exit)) (now (dev .exit)) ≡ storeWord m (lent (now (mem .entry)) (now (dev .entry))) a w ⌝ }
+{
+    let d = decide_word(m, mem.len(), dev.len(), a, w);
+    let c = d.changes;
+    make(c, mem, dev);
+    d.outcome
+}
