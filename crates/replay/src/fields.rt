@@ -1,0 +1,182 @@
+// The fields of a line: a name, then fields that each follow one space.
+//
+// A reader of a field is handed the place where the field before it ended, and says where this one ends. Where a
+// field is bad it ends nowhere, and nothing can be read from nowhere, so a command reads all its fields in a row and
+// asks once, at the end, whether the last of them ended where the line does.
+ghost use Prim.Native.Nat.{_≤_};
+ghost use lib.ListN.{length};
+
+// No place of a line: every line is shorter.
+pub const NOWHERE: usize = 18446744073709551615;
+
+pub struct NumberField {
+    pub value: u32,
+    pub next: usize,
+}
+
+pub struct WordField {
+    pub value: u16,
+    pub next: usize,
+}
+
+// How many words were read, and where the last of them ended.
+pub struct WordList {
+    pub count: usize,
+    pub next: usize,
+}
+
+// The byte at a place, where what follows the line counts as spaces: a field ends at a space or at the line's end.
+pub fn byte_at(line: &[u8], at: usize) -> u8 {
+    if at < line.len() { line[at] } else { b' ' }
+}
+
+// Where the line's first field ends.
+pub fn name_end(line: &[u8]) -> usize
+    ensures { λ r. ⌜ r ≤ length (now (line .entry)) ⌝ }
+{
+    let mut i: usize = 0;
+    while i < line.len() {
+        if line[i] == b' ' {
+            return i;
+        }
+        i += 1;
+    }
+    i
+}
+
+// Whether two texts are the same.
+pub fn same(a: &[u8], b: &[u8]) -> bool {
+    if a.len() != b.len() {
+        return false;
+    }
+    let mut i: usize = 0;
+    while i < a.len() {
+        if a[i] != byte_at(b, i) {
+            return false;
+        }
+        i += 1;
+    }
+    true
+}
+
+// Where the field that follows `at` begins: past one space, where no second one stands.
+pub fn opened(line: &[u8], at: usize) -> usize {
+    if line.len() <= at {
+        return NOWHERE;
+    }
+    if line[at] != b' ' {
+        return NOWHERE;
+    }
+    if byte_at(line, at + 1) == b' ' {
+        return NOWHERE;
+    }
+    at + 1
+}
+
+fn no_number() -> NumberField
+    ensures { λ r. ⌜ r .value ≤ 0 ⌝ }
+{
+    NumberField {
+        value: 0,
+        next: NOWHERE,
+    }
+}
+
+// A decimal digit's value; 10 for any other byte.
+fn digit(b: u8) -> u8
+    ensures { λ r. ⌜ r ≤ 10 ⌝ }
+{
+    if b < b'0' {
+        return 10;
+    }
+    if b'9' < b {
+        return 10;
+    }
+    b - b'0'
+}
+
+// One decimal digit more, or 4,294,967,296 where that is no digit or the number has outgrown 32 bits.
+fn grown(v: u64, b: u8) -> u64
+    requires { ⌜ v ≤ 4294967296 ⌝ }
+    ensures { λ r. ⌜ r ≤ 4294967296 ⌝ }
+{
+    let d = digit(b);
+    if d == 10 {
+        return 4294967296;
+    }
+    let r = v * 10 + d as u64;
+    if 4294967296 < r { 4294967296 } else { r }
+}
+
+// The number that follows `at`, at most `most`.
+pub fn number(line: &[u8], at: usize, most: u32) -> NumberField
+    ensures { λ r. ⌜ r .value ≤ most ⌝ }
+{
+    let mut i = opened(line, at);
+    let mut v: u64 = 0;
+    if line.len() <= i {
+        return no_number();
+    }
+    while i < line.len() {
+        let b = line[i];
+        if b == b' ' {
+            break;
+        }
+        v = grown(v, b);
+        i += 1;
+    }
+    bounded(v, i, most)
+}
+
+fn bounded(v: u64, next: usize, most: u32) -> NumberField
+    ensures { λ r. ⌜ r .value ≤ most ⌝ }
+{
+    if (most as u64) < v {
+        return no_number();
+    }
+    NumberField {
+        value: v as u32,
+        next,
+    }
+}
+
+// The number that follows `at`, of sixteen bits.
+pub fn word(line: &[u8], at: usize) -> WordField {
+    let n = number(line, at, 65535);
+    WordField {
+        value: n.value as u16,
+        next: n.next,
+    }
+}
+
+// The words that follow `at`, to the line's end, to a bad one or until out is full.
+pub fn words(line: &[u8], at: usize, out: &mut [u16]) -> WordList
+    ensures { λ r. ⌜ r .count ≤ length (now (out .exit)) ⌝ }
+{
+    let mut n: usize = 0;
+    let mut next = at;
+    while n < out.len() {
+        if line.len() <= next {
+            break;
+        }
+        let w = word(line, next);
+        out[n] = w.value;
+        next = w.next;
+        n += 1;
+    }
+    WordList { count: n, next }
+}
+
+// Where the field that follows `at` ends, if it is this very name.
+pub fn named(line: &[u8], at: usize, name: &[u8]) -> usize {
+    let start = opened(line, at);
+    if line.len() <= start {
+        return NOWHERE;
+    }
+    let rest = &line[start..];
+    let n = name_end(rest);
+    if same(&rest[0..n], name) {
+        return start + n;
+    }
+    NOWHERE
+}
