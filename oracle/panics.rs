@@ -1,0 +1,54 @@
+//! A panic of the Rust stands as a number of document 01: which one, by its place in the source.
+use std::cell::{Cell, RefCell};
+use std::panic::{self, AssertUnwindSafe};
+
+/// File, line, number. The one table of them; a panic at any other line is answered `panic FILE:LINE`, which no
+/// `replay` answers, so that it shows as a difference.
+const PANICS: &[(&str, u32, u8)] = &[
+    // `addr + 1` in `read2`: a word at 65,535 whose low byte is mapped
+    ("memory.rs", 37, 3),
+    // `addr + 1` in `write2`: a word at 65,535 whose low byte took the store
+    ("memory.rs", 46, 3),
+    // `addr+size` in `read_from_memory`: reading out past 65,535
+    ("machine.rs", 335, 12),
+];
+
+thread_local! {
+    /// Whether the Rust is being called. Any other panic is the driver's own and ends it.
+    static WATCHED: Cell<bool> = const { Cell::new(false) };
+    /// Where the last watched panic was.
+    static PLACE: RefCell<(String, u32)> = const { RefCell::new((String::new(), 0)) };
+}
+
+/// From now on a watched panic is noted and not printed.
+pub fn listen() {
+    let usual = panic::take_hook();
+    panic::set_hook(Box::new(move |info| {
+        if !WATCHED.get() {
+            return usual(info);
+        }
+        if let Some(place) = info.location() {
+            PLACE.set((short(place.file()), place.line()));
+        }
+    }));
+}
+
+/// The path below the Rust's `src/`, whatever folder it was built in.
+fn short(file: &str) -> String {
+    file.rsplit("src/").next().unwrap_or(file).to_string()
+}
+
+/// Calls the Rust. The error is the answer that its panic stands for.
+pub fn caught<T>(call: impl FnOnce() -> T) -> Result<T, String> {
+    WATCHED.set(true);
+    let result = panic::catch_unwind(AssertUnwindSafe(call));
+    WATCHED.set(false);
+    result.map_err(|_| PLACE.with_borrow(|(file, line)| meaning(file, *line)))
+}
+
+fn meaning(file: &str, line: u32) -> String {
+    match PANICS.iter().find(|row| row.0 == file && row.1 == line) {
+        Some((_, _, number)) => crate::answers::no(*number),
+        None => format!("panic {file}:{line}"),
+    }
+}
