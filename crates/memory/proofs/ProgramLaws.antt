@@ -26,7 +26,7 @@ use Rattle.memory.proofs.WordLaws.{word-lengths}
 pub words-lengths : (m : Map) (program : List ℕ) (s : Lent) (i : ℕ) → SameLengths (storeWords m s i program .bytes) s
 unfolding storeWords
 words-lengths m [] s i = same-lengths s
-words-lengths m (w ∷ rest) s i = go (isDone (wordStored m s (doubled i) w)) (words-lengths m rest (storeWord m s (doubled i) w) (i + 1))
+words-lengths m (w ∷ rest) s i = go (isDone (wordStored m s (doubled i))) (words-lengths m rest (storeWord m s (doubled i) w) (i + 1))
   where
     go : (t : Bool) → SameLengths (storeWords m (storeWord m s (doubled i) w) (i + 1) rest .bytes) (storeWord m s (doubled i) w) → SameLengths (cond t (storeWords m (storeWord m s (doubled i) w) (i + 1) rest) (words false (storeWord m s (doubled i) w)) .bytes) s
     go true r = then-lengths r (word-lengths m s (doubled i) w)

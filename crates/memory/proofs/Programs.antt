@@ -24,9 +24,9 @@ module _ (m : Map) (program : List ℕ) (s₀ s : Lent) (i : ℕ) (r : storeWord
   words-end h = r ∙ rw (drop-of-length-le program h)
 
   -- the callees' clauses as they stand: the address a, the store's outcome t and bytes s₁, and the test q of the outcome
-  module _ (h : i < length program) (a : ℕ) (g : a ≡ doubled i) (t : Stored) (e : t ≡ wordStored m s a (getD program i 0)) (s₁ : Lent) (f : s₁ ≡ storeWord m s a (getD program i 0)) (q : Bool) (d : q ≡ isDone t) where
-    done : (u : Bool) → q ≡ u → isDone (wordStored m s (doubled i) (getD program i 0)) ≡ u
-    done u k = ap (λ (x : ℕ). isDone (wordStored m s x (getD program i 0))) (sym g) ∙ ap isDone (sym e) ∙ sym d ∙ k
+  module _ (h : i < length program) (a : ℕ) (g : a ≡ doubled i) (t : Stored) (e : t ≡ wordStored m s a) (s₁ : Lent) (f : s₁ ≡ storeWord m s a (getD program i 0)) (q : Bool) (d : q ≡ isDone t) where
+    done : (u : Bool) → q ≡ u → isDone (wordStored m s (doubled i)) ≡ u
+    done u k = ap (λ (x : ℕ). isDone (wordStored m s x)) (sym g) ∙ ap isDone (sym e) ∙ sym d ∙ k
 
     stored : storeWord m s (doubled i) (getD program i 0) ≡ s₁
     stored = ap (λ (x : ℕ). storeWord m s x (getD program i 0)) (sym g) ∙ sym f

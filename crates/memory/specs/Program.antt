@@ -24,7 +24,7 @@ words t s = record { all = t; bytes = s }
 unfoldable pub storeWords : Map → Lent → ℕ → List ℕ → Words
 storeWords m s i [] = words true s
 storeWords m s i (w ∷ rest) =
-    cond (isDone (wordStored m s (doubled i) w)) (storeWords m (storeWord m s (doubled i) w) (i + 1) rest)
+    cond (isDone (wordStored m s (doubled i))) (storeWords m (storeWord m s (doubled i) w) (i + 1) rest)
     (words false (storeWord m s (doubled i) w))
 
 -- 1, 16, 14, 15, and then 13

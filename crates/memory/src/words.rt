@@ -98,7 +98,7 @@ pub fn make(c: Changes, mem: &mut [u8], dev: &mut [u8])
 
 // Stores a word, low byte first; where the high byte takes no store the low one stays.
 pub fn store_word(m: Map, mem: &mut [u8], dev: &mut [u8], a: u16, w: u16) -> Stored
-    ensures { λ r. ⌜ r ≡ wordStored m (lent (now (mem .entry)) (now (dev .entry))) a w ⌝ }
+    ensures { λ r. ⌜ r ≡ wordStored m (lent (now (mem .entry)) (now (dev .entry))) a ⌝ }
     ensures { λ _. ⌜ lent (now (mem .exit)) (now (dev .exit)) ≡ storeWord m (lent (now (mem .entry)) (now (dev .entry))) a w ⌝ }
 {
     let d = decide_word(m, mem.len(), dev.len(), a, w);
