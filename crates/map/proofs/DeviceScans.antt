@@ -1,11 +1,9 @@
 -- One turn of a loop that adds up the sizes of the devices before entry i, and may look for the one that covers an address. Assumes nothing.
-use mathlib.Core.Path.{_≡_, refl, sym, _∙_, ap}
+use mathlib.Core.Path.{_≡_}
 use mathlib.Core.Bool.{true, false}
-use mathlib.Core.List.{List, [], _∷_}
+use mathlib.Core.List.{List}
 use Prim.Native.Nat.{ℕ, _+_, _-_, _<_, _≤_, min}
-use native.Mathlib.Omega.{arith}
 use lib.ListN.{length, getD, take, drop}
-use Rattle.base.specs.Choice.{cond}
 use Rattle.map.specs.Devices.{deviceCovers, deviceSize, total}
 use Rattle.map.specs.Places.{inLinear, inBank, placeFrom}
 use Rattle.map.specs.declared.Device.{Device}

@@ -1,11 +1,10 @@
 -- Each refusal of adding an entry, and its acceptance, as number and map together. Assumes nothing.
-use mathlib.Core.Path.{_≡_, refl, sym, _∙_}
+use mathlib.Core.Path.{_≡_}
 use mathlib.Core.Bool.{true, false}
 use mathlib.Core.List.{List}
 use Prim.Native.Nat.{ℕ, _+_, _<_, _≤_}
 use lib.ListN.{length}
 use borrow.Author.Tests.{lt-ltb, le-ltb, le-leb, lt-leb}
-use Rattle.base.specs.Choice.{cond}
 use Rattle.map.specs.Tables.{any}
 use Rattle.map.specs.Regions.{regionsOverlap, usedRegions}
 use Rattle.map.specs.Devices.{devicesOverlap, deviceSize, usedDevices, total}

@@ -1,18 +1,18 @@
 -- Tables keep their eight entries and stay valid under protect and a new device: the new entry is right and meets no other. Assumes nothing.
-use mathlib.Core.Path.{_≡_, refl, sym, ap, subst, _∙_}
-use mathlib.Core.Bool.{Bool, true, false, not, _&&_, _||_, or-comm, and-comm}
+use mathlib.Core.Path.{_≡_, refl, _∙_}
+use mathlib.Core.Bool.{Bool, true, false, not, or-comm, and-comm}
 use mathlib.Core.List.{List, [], _∷_, _++_}
 use Prim.Native.Nat.{ℕ, _+_, _≤_, _<_}
 use native.Mathlib.Omega.{arith}
 use lib.Dec.{ltb, leb, eqb}
-use lib.ListN.{length, set, take, drop, length-set}
+use lib.ListN.{length, take, drop, length-set}
 use borrow.Author.Tests.{leb-true, leb-false, ltb-false, le-leb, not-true}
 use Rattle.base.specs.Choice.{cond}
 use Rattle.map.specs.Tables.{any, sound}
 use Rattle.map.specs.Regions.{regionCovers, regionsOverlap, regionInRange, regionIsSet, usedRegions, spareRegions}
 use Rattle.map.specs.Devices.{deviceSize, devicesOverlap, deviceForward, deviceIsSet, usedDevices, spareDevices, total}
 use Rattle.map.specs.Valid.{validRegions, validDevices, valid}
-use Rattle.map.specs.Entries.{region, device, withRegion, regionNumber, regionMap, protectMap, withDevice, deviceNumber, deviceMap, registerNumber, registerMap}
+use Rattle.map.specs.Entries.{region, device, withRegion, regionNumber, regionMap, protectMap, withDevice, deviceNumber, deviceMap, registerMap}
 use Rattle.map.specs.declared.Region.{Region}
 use Rattle.map.specs.declared.Device.{Device}
 use Rattle.map.specs.declared.Map.{Map}

@@ -1,26 +1,25 @@
 -- What the crates above may use of places and of a valid map, without opening the definitions (KeptLaws.antt has the rest). Assumes nothing.
-use mathlib.Core.Path.{_≡_, refl, sym, ap, subst, _∙_}
-use mathlib.Core.Bool.{Bool, true, false, not, _&&_, _||_, or-comm, and-comm}
-use mathlib.Core.List.{List, [], _∷_, _++_}
-use Prim.Native.Nat.{ℕ, _+_, _≤_, _<_}
+use mathlib.Core.Path.{_≡_, refl, sym, ap, _∙_}
+use mathlib.Core.Bool.{Bool, true, false, not, _&&_, _||_}
+use mathlib.Core.List.{List}
+use Prim.Native.Nat.{ℕ, _+_, _-_, _≤_, _<_}
 use native.Mathlib.Omega.{arith}
-use lib.Dec.{ltb, leb, eqb}
-use lib.ListN.{length, set, take, drop, length-set}
+use lib.Dec.{ltb, leb}
+use lib.ListN.{length, getD, take}
 use borrow.Author.Tests.{leb-true, le-leb, le-ltb, lt-leb}
 use Rattle.base.specs.Choice.{cond}
 use Rattle.map.specs.Tables.{any, sound}
-use Rattle.map.specs.Regions.{regionsOverlap, regionInRange, regionIsSet, usedRegions, spareRegions, protected}
-use Rattle.map.specs.Devices.{deviceCovers, deviceSize, devicesOverlap, deviceForward, deviceIsSet, usedDevices, spareDevices, total}
+use Rattle.map.specs.Regions.{regionsOverlap, regionIsSet, usedRegions, spareRegions, protected}
+use Rattle.map.specs.Devices.{deviceCovers, deviceIsSet, usedDevices, spareDevices, total}
 use Rattle.map.specs.Places.{inLinear, placeFrom, place, guard, target, somewhere}
 use Rattle.map.specs.Valid.{validRegions, validDevices, valid}
-use Rattle.map.specs.Entries.{region, device, emptyMap, withRegion, regionNumber, regionMap, protectNumber, protectMap, withDevice, deviceNumber, deviceMap, registerNumber, registerMap}
+use Rattle.map.specs.Entries.{device, emptyMap, regionNumber}
 use Rattle.map.specs.declared.Region.{Region}
-use Rattle.map.specs.declared.Device.{Device}
 use Rattle.map.specs.declared.Map.{Map}
 use Rattle.map.specs.declared.Place.{Place}
 use Rattle.map.specs.declared.Place.the-variants.{Linear, Bank, Nowhere}
 use Rattle.map.proofs.Tests.{first, second, third}
-use Rattle.map.proofs.PlaceLaws.{SameByte, Within, from-within, from-linear, from-one, from-covered, from-uncovered}
+use Rattle.map.proofs.PlaceLaws.{SameByte, Within, from-within, from-linear, from-one, from-covered, from-uncovered, from-index}
 
 -- ---- places
 
@@ -56,6 +55,23 @@ module _ (m : Map) (mem dev : ℕ) where
       go (Bank n o i) (Bank k q j) e f h = from-one mem dev (usedDevices m) 0 0 a b n o k q j (e ∙ ap (Bank n o) h) f
       go (Bank n o i) Nowhere e f h = absurd h
       go Nowhere q e f h = absurd h
+
+  -- a device's bytes are the next of the device buffer: its byte at an offset is past all bytes of the devices before it
+  pub place-index : (a k q i : ℕ) → place m mem dev a ≡ Bank k q i → i ≡ total (take k (usedDevices m)) + q
+  unfolding place
+  place-index a k q i e =
+      let f = from-index mem dev (usedDevices m) 0 0 a k q i e in
+      let z : k - 0 ≡ k = omega arith in
+      let g : i ≡ 0 + total (take k (usedDevices m)) + q = rw z at (f .1) in
+      omega arith
+
+  -- and the offset is that from the start of the device with that number
+  pub place-offset : (a k q i : ℕ) → place m mem dev a ≡ Bank k q i → q + getD (usedDevices m) k (device 0 0) .start ≡ a
+  unfolding place
+  place-offset a k q i e =
+      let f = from-index mem dev (usedDevices m) 0 0 a k q i e in
+      let z : k - 0 ≡ k = omega arith in
+      rw z at (f .2)
 
   -- a store that has a place to go to goes where the byte is
   pub target-place : (a : ℕ) → somewhere (target m mem dev a) ≡ true → target m mem dev a ≡ place m mem dev a

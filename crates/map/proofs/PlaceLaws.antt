@@ -1,15 +1,17 @@
 -- Devices have their bytes one after the other, so no byte answers for two addresses, and each covered address has one. Assumes nothing.
-use mathlib.Core.Path.{_≡_, refl, sym, ap, _∙_}
+use mathlib.Core.Path.{_≡_, refl}
 use mathlib.Core.Bool.{Bool, true, false, _||_}
 use mathlib.Core.List.{List, [], _∷_}
-use Prim.Native.Nat.{ℕ, _+_, _-_, _≤_, _<_}
+use Prim.Native.Nat.{ℕ, suc, _+_, _-_, _≤_, _<_}
 use native.Mathlib.Omega.{arith}
 use lib.Dec.{ltb}
+use lib.ListN.{getD, take}
 use borrow.Author.Tests.{ltb-true, lt-ltb}
 use Rattle.base.specs.Choice.{cond}
 use Rattle.map.specs.Tables.{any}
 use Rattle.map.specs.Devices.{deviceCovers, deviceSize, total}
-use Rattle.map.specs.Places.{inLinear, inBank, placeFrom, guard, somewhere}
+use Rattle.map.specs.Places.{inLinear, inBank, placeFrom}
+use Rattle.map.specs.Entries.{device}
 use Rattle.map.specs.declared.Device.{Device}
 use Rattle.map.specs.declared.Place.{Place}
 use Rattle.map.specs.declared.Place.the-variants.{Linear, Bank, Nowhere}
@@ -41,6 +43,14 @@ module _ (number offset base dev : ℕ) where
       go : (t : Bool) → cond t (Bank number offset (base + offset)) Nowhere ≡ Bank k q i → base + offset ≡ i
       go true e = cc
       go false e = let z : _≡_ {A = ℕ} 0 1 = cc in omega arith
+
+  bank-number : (k q i : ℕ) → inBank number offset base dev ≡ Bank k q i → (number ≡ k) × (offset ≡ q)
+  unfolding inBank
+  bank-number k q i = go (ltb (base + offset) dev)
+    where
+      go : (t : Bool) → cond t (Bank number offset (base + offset)) Nowhere ≡ Bank k q i → (number ≡ k) × (offset ≡ q)
+      go true e = ((cc), (cc))
+      go false e = absurd (let z : _≡_ {A = ℕ} 0 1 = cc in omega arith)
 
   bank-not-linear : (i : ℕ) → inBank number offset base dev ≡ Linear i → ⊥
   unfolding inBank
@@ -154,3 +164,21 @@ module _ (mem dev : ℕ) where
       go : (t : Bool) → (any (deviceCovers a) rest ≡ false → placeFrom rest (n + 1) (base + deviceSize d) mem dev a ≡ inLinear mem a) → (t || any (deviceCovers a) rest) ≡ false → cond t (inBank n (a - d .start) base dev) (placeFrom rest (n + 1) (base + deviceSize d) mem dev a) ≡ inLinear mem a
       go true r e = absurd (let z : _≡_ {A = ℕ} 0 1 = cc in omega arith)
       go false r e = r e
+
+  -- a device's byte is at its offset past all bytes of the devices before it, and the offset is from that device's start
+  pub from-index : (l : List Device) (n base a k q i : ℕ) → placeFrom l n base mem dev a ≡ Bank k q i → (n ≤ k) × (i ≡ base + total (take (k - n) l) + q) × (q + getD l (k - n) (device 0 0) .start ≡ a)
+  unfolding placeFrom total
+  from-index [] n base a k q i = λ e. absurd (linear-not-bank mem a k q i e)
+  from-index (d ∷ rest) n base a k q i = go (deviceCovers a d) refl (from-index rest (n + 1) (base + deviceSize d) a k q i)
+    where
+      go : (t : Bool) → deviceCovers a d ≡ t → (placeFrom rest (n + 1) (base + deviceSize d) mem dev a ≡ Bank k q i → (n + 1 ≤ k) × (i ≡ base + deviceSize d + total (take (k - (n + 1)) rest) + q) × (q + getD rest (k - (n + 1)) (device 0 0) .start ≡ a)) → cond t (inBank n (a - d .start) base dev) (placeFrom rest (n + 1) (base + deviceSize d) mem dev a) ≡ Bank k q i → (n ≤ k) × (i ≡ base + total (take (k - n) (d ∷ rest)) + q) × (q + getD (d ∷ rest) (k - n) (device 0 0) .start ≡ a)
+      go true c r e =
+          let f = bank-number n (a - d .start) base dev k q i e in
+          let g = bank-index n (a - d .start) base dev k q i e in
+          let s = inside a d c in
+          let z : k - n ≡ 0 = omega arith in
+          (omega arith, rw z (omega arith), rw z (omega arith))
+      go false c r e =
+          let f = r e in
+          let z : k - n ≡ suc (k - (n + 1)) = omega arith in
+          (omega arith, rw z (omega arith), rw z (f .2))

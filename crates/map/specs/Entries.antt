@@ -1,6 +1,5 @@
 -- Adding an entry to a table: the number of the answer, 0 where it is accepted, and the map afterwards.
 use Prim.Native.Nat.{ℕ, _+_}
-use mathlib.Core.Bool.{Bool}
 use mathlib.Core.List.{List}
 use lib.Dec.{leb, ltb, eqb}
 use lib.ListN.{length, set, replicate}

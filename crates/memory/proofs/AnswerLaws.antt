@@ -1,10 +1,9 @@
 -- Two answers of a reading out with one number and one count are one answer. Assumes nothing.
-use mathlib.Core.Path.{_≡_, refl, sym, ap, _∙_}
+use mathlib.Core.Path.{_≡_, sym, ap}
 use Prim.Native.Nat.{ℕ}
 use native.Mathlib.Omega.{arith}
-use Rattle.base.specs.Numbers.{numberOf, answerNumber}
+use Rattle.base.specs.Numbers.{numberOf}
 use Rattle.base.specs.declared.refusals.Refusal.{Refusal}
-use Rattle.base.specs.declared.refusals.Answer.{Answer}
 use Rattle.base.specs.declared.refusals.Answer.the-variants.{Accepted, Refused}
 use Rattle.base.proofs.Laws.{answer-one, number-one}
 use Rattle.memory.specs.Blocks.{Counted, counted}

@@ -16,7 +16,6 @@ use Rattle.map.proofs.Tests.{clash}
 use Rattle.map.proofs.PlaceLaws.{SameByte, Within}
 use Rattle.map.proofs.Laws.{linear-somewhere, bank-somewhere, nowhere-not}
 use Rattle.memory.specs.Bytes.{Lent, lent, answered, get, put}
-use Rattle.memory.specs.declared.Read.{Read}
 use Rattle.memory.specs.declared.Read.the-variants.{Byte, Unmapped}
 
 -- ---- one buffer

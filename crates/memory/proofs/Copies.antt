@@ -8,13 +8,11 @@ use native.Mathlib.Omega.{arith}
 use borrow.Author.Tests.{lt-ltb, le-ltb}
 use lib.ListN.{length, set, take, drop, take-append-drop}
 use lib.Seq.{length-take-le, take-suc-set, drop-set-lt, drop-drop}
-use Rattle.base.specs.Choice.{cond}
 use Rattle.map.specs.Valid.{valid}
 use Rattle.map.specs.declared.Map.{Map}
 use Rattle.map.specs.declared.Place.{Place}
 use Rattle.memory.specs.Bytes.{Lent, readByte}
 use Rattle.memory.specs.Blocks.{onward, readBytes, over, Counted, numbered, readOut, readOutBuffer}
-use Rattle.memory.specs.declared.Read.{Read}
 use Rattle.memory.specs.declared.Read.the-variants.{Byte, Unmapped}
 
 -- i bytes are copied, and the rest of the buffer is as it was

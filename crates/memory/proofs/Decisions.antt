@@ -4,7 +4,6 @@ use mathlib.Core.Bool.{Bool, true, false}
 use Prim.Native.Nat.{ℕ, _+_}
 use lib.Dec.{eqb}
 use lib.ListN.{length}
-use Rattle.base.specs.Choice.{cond}
 use Rattle.base.specs.Words.{lowOf, highOf}
 use Rattle.base.specs.declared.refusals.Refusal.the-variants.{AddressOverflow}
 use Rattle.map.specs.Places.{somewhere, target}

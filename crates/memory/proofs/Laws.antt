@@ -2,22 +2,20 @@
 -- having two bytes and a store changing no length. Assumes nothing.
 use mathlib.Core.Path.{_≡_, refl, sym, ap, _∙_}
 use mathlib.Core.Bool.{Bool, true, false, not, _&&_, _||_}
-use mathlib.Core.List.{List}
 use Prim.Native.Nat.{ℕ}
 use lib.Dec.{ltb}
 use lib.ListN.{length}
 use Rattle.map.specs.Tables.{any}
 use Rattle.map.specs.Regions.{protected}
 use Rattle.map.specs.Devices.{deviceCovers, usedDevices}
-use Rattle.map.specs.Places.{place, target, somewhere}
+use Rattle.map.specs.Places.{somewhere}
 use Rattle.map.specs.Valid.{valid}
 use Rattle.map.specs.declared.Map.{Map}
 use Rattle.map.specs.declared.Place.{Place}
 use Rattle.map.proofs.PlaceLaws.{SameByte, Within}
 use Rattle.map.proofs.Laws.{place-within, place-one, target-place, takes-rule, valid-length}
 use Rattle.memory.specs.Bytes.{Lent, get, put, placeIn, targetIn, readByte, takes, storeByte}
-use Rattle.memory.specs.declared.Read.{Read}
-use Rattle.memory.specs.declared.Read.the-variants.{Byte, Unmapped}
+use Rattle.memory.specs.declared.Read.the-variants.{Byte}
 use Rattle.memory.proofs.ByteLaws.{put-mem, put-dev, get-put, get-put-other, put-back, put-none, get-some}
 
 -- the same numbers of bytes are lent

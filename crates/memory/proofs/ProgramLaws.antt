@@ -1,8 +1,8 @@
 -- What the crates above may use of a load: lengths stay, valid tables stay valid, and at its end only 13 is left. Assumes nothing.
-use mathlib.Core.Path.{_≡_, refl, sym, ap, _∙_}
+use mathlib.Core.Path.{_≡_, _∙_}
 use mathlib.Core.Bool.{Bool, true, false, _&&_}
 use mathlib.Core.List.{List, [], _∷_}
-use Prim.Native.Nat.{ℕ, _+_, _≤_, _<_}
+use Prim.Native.Nat.{ℕ, _+_}
 use native.Mathlib.Omega.{arith}
 use lib.ListN.{length}
 use borrow.Author.Tests.{leb-true, ltb-true, le-ltb, lt-leb}
@@ -12,14 +12,14 @@ use Rattle.base.specs.Words.{doubled}
 use Rattle.map.specs.Tables.{any}
 use Rattle.map.specs.Regions.{regionsOverlap, usedRegions}
 use Rattle.map.specs.Valid.{valid}
-use Rattle.map.specs.Entries.{region, regionNumber, regionMap}
+use Rattle.map.specs.Entries.{region, regionMap}
 use Rattle.map.specs.declared.Map.{Map}
 use Rattle.map.proofs.Tests.{first, second, third}
 use Rattle.map.proofs.Laws.{valid-length, region-last}
 use Rattle.map.proofs.KeptLaws.{Eight, eight-region, region-kept}
 use Rattle.memory.specs.Bytes.{Lent}
 use Rattle.memory.specs.Words.{wordStored, storeWord, isDone}
-use Rattle.memory.specs.Program.{Words, words, storeWords, loadNumber, begins, loadBytes, loadMap}
+use Rattle.memory.specs.Program.{words, storeWords, loadNumber, begins, loadBytes, loadMap}
 use Rattle.memory.proofs.Laws.{SameLengths, same-lengths, then-lengths}
 use Rattle.memory.proofs.WordLaws.{word-lengths}
 

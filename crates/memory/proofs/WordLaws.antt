@@ -1,18 +1,17 @@
 -- What the crates above may use of words: what becomes of a word's store in each case, and that it is read back. Assumes nothing.
-use mathlib.Core.Path.{_≡_, refl, sym, ap, _∙_}
+use mathlib.Core.Path.{_≡_, _∙_}
 use mathlib.Core.Bool.{Bool, true, false, not, _&&_}
 use Prim.Native.Nat.{ℕ, _+_}
 use native.Mathlib.Omega.{arith}
 use lib.Dec.{eqb}
-use borrow.Author.Tests.{eq-eqb, ne-eqb}
+use borrow.Author.Tests.{ne-eqb}
 use Rattle.base.specs.Choice.{cond}
 use Rattle.base.specs.Words.{wordOf, lowOf, highOf}
 use Rattle.base.specs.declared.refusals.Refusal.the-variants.{AddressOverflow}
 use Rattle.map.specs.declared.Map.{Map}
 use Rattle.memory.specs.Bytes.{Lent, placeIn, readByte, takes, storeByte}
 use Rattle.memory.specs.Words.{joined, readWord, wordStored, storeWord}
-use Rattle.memory.specs.declared.Read.{Read}
-use Rattle.memory.specs.declared.Read.the-variants.{Byte, Unmapped}
+use Rattle.memory.specs.declared.Read.the-variants.{Byte}
 use Rattle.memory.specs.declared.Stored.{Stored}
 use Rattle.memory.specs.declared.Stored.the-variants as stored
 use Rattle.memory.specs.declared.WordRead.the-variants as word

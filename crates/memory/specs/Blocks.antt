@@ -1,6 +1,5 @@
 -- Reading memory out: 12, 19, then bytes up to the first unmapped one and their count; later buffer bytes stay.
 use Prim.Native.Nat.{ℕ, zero, suc, _+_}
-use mathlib.Core.Bool.{Bool}
 use mathlib.Core.List.{List, [], _∷_, _++_}
 use lib.Dec.{ltb, eqb}
 use lib.ListN.{length, drop}

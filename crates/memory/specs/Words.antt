@@ -4,7 +4,6 @@ use mathlib.Core.Bool.{Bool, true, false, not, _&&_}
 use lib.Dec.{eqb}
 use Rattle.base.specs.Choice.{cond}
 use Rattle.base.specs.Words.{wordOf, lowOf, highOf}
-use Rattle.base.specs.declared.refusals.Refusal.{Refusal}
 use Rattle.base.specs.declared.refusals.Refusal.the-variants.{AddressOverflow}
 use Rattle.map.specs.Places.{target, somewhere}
 use Rattle.map.specs.declared.Map.{Map}

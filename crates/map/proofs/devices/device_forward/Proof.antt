@@ -1,5 +1,5 @@
 -- The test is the definition's. Assumes nothing.
-use mathlib.Core.Path.{_≡_, refl, sym, ap, _∙_}
+use mathlib.Core.Path.{refl}
 use Rattle.map.specs.Devices.{deviceForward}
 use Rattle.map.proofs.devices.device_forward.Statement.{statement}
 use Rattle.map.proofs.devices.device_forward.Tie as tie

@@ -1,5 +1,5 @@
 -- The place decides, and of a linear one the protection. Assumes nothing.
-use mathlib.Core.Path.{_≡_, refl, sym, _∙_}
+use mathlib.Core.Path.{sym, _∙_}
 use Rattle.map.specs.Places.{target, guard}
 use borrow.Author.Needs.{needs}
 use Rattle.map.proofs.places.target_of.Statement.{statement}

@@ -1,5 +1,5 @@
 -- Either start lies inside the other, tried one after the other. Assumes nothing.
-use mathlib.Core.Path.{_≡_, refl, sym, ap, _∙_}
+use mathlib.Core.Path.{sym, _∙_}
 use Rattle.map.specs.Regions.{regionsOverlap}
 use borrow.Author.Needs.{needs}
 use Rattle.map.proofs.regions.regions_overlap.Statement.{statement}

@@ -1,5 +1,5 @@
 -- Each test that led to an answer is the definition's. Assumes nothing.
-use mathlib.Core.Path.{_≡_, refl, sym, _∙_}
+use mathlib.Core.Path.{sym, _∙_}
 use native.Mathlib.Omega.{arith}
 use Rattle.map.specs.Entries.{withDevice}
 use Rattle.map.proofs.Entries.{device-13, device-14, device-17, device-0}

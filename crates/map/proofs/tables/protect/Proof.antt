@@ -1,5 +1,5 @@
 -- 1 comes first, and the rest is adding the region. Assumes nothing.
-use mathlib.Core.Path.{_≡_, refl, sym, _∙_}
+use mathlib.Core.Path.{sym, _∙_}
 use denote.Ref.{now}
 use borrow.Author.Tests.{not-true, not-false}
 use Rattle.map.proofs.Entries.{protect-1, protect-valid}

@@ -1,10 +1,5 @@
 -- The three tests stand in the definition's order. Assumes nothing.
-use mathlib.Core.Path.{_≡_, refl, sym, _∙_}
-use mathlib.Core.Bool.{Bool}
-use denote.Ref.{now}
-use lib.Dec.{leb}
-use Prim.Native.Nat.{ℕ}
-use lib.ListN.{length, drop}
+use mathlib.Core.Path.{sym, _∙_}
 use borrow.Author.Tests.{not-true, not-false}
 use Rattle.map.specs.Valid.{valid}
 use borrow.Author.Needs.{needs}

@@ -1,5 +1,5 @@
 -- The three tests stand in the definition's order. Assumes nothing.
-use mathlib.Core.Path.{_≡_, refl, sym, _∙_}
+use mathlib.Core.Path.{sym, _∙_}
 use borrow.Author.Tests.{le-leb, lt-leb}
 use Rattle.map.specs.Valid.{validRegions}
 use borrow.Author.Needs.{needs}

@@ -1,9 +1,9 @@
 -- The bytes copied and those still to be read are the bytes asked for, and the buffer's rest is as it was. Assumes nothing.
-use mathlib.Core.Path.{_≡_, refl, sym, ap, _∙_}
-use Prim.Native.Nat.{ℕ, _-_, _≤_}
+use mathlib.Core.Path.{_≡_, refl, sym, _∙_}
+use Prim.Native.Nat.{_-_, _≤_}
 use denote.Ref.{now}
 use native.Mathlib.Omega.{arith}
-use lib.ListN.{length, getD, drop}
+use lib.ListN.{length}
 use Rattle.memory.specs.Bytes.{lent}
 use Rattle.memory.proofs.Copies.{Copied, copied-none, copied-end, copied-stop, copied-more}
 use borrow.Author.Needs.{needs}

@@ -1,5 +1,4 @@
 -- Each kind of place reads its own bytes, as far as they go. Assumes nothing.
-use mathlib.Core.Path.{_≡_, refl, sym, ap, _∙_}
 use borrow.Author.Tests.{lt-ltb, le-ltb}
 use Rattle.memory.specs.Bytes.{get, answered}
 use borrow.Author.Needs.{needs}

@@ -1,5 +1,4 @@
 -- The byte is read at its place. Assumes nothing.
-use mathlib.Core.Path.{_≡_, refl, sym, ap, _∙_}
 use Rattle.memory.specs.Bytes.{readByte, placeIn}
 use borrow.Author.Needs.{needs}
 use Rattle.memory.proofs.bytes.read_byte.Statement.{statement}

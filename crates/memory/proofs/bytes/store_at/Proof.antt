@@ -1,5 +1,4 @@
 -- Each kind of place changes its own bytes, as far as they go. Assumes nothing.
-use mathlib.Core.Path.{_≡_, refl, sym, ap, _∙_}
 use lib.Seq.{set-out}
 use Rattle.memory.specs.Bytes.{put}
 use borrow.Author.Needs.{needs}

@@ -1,5 +1,4 @@
 -- The byte is stored where a store to its address goes. Assumes nothing.
-use mathlib.Core.Path.{_≡_, refl, sym, ap, _∙_}
 use Rattle.memory.specs.Bytes.{takes, storeByte, targetIn}
 use borrow.Author.Needs.{needs}
 use Rattle.memory.proofs.bytes.store_byte.Statement.{statement}

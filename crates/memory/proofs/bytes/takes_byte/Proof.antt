@@ -1,5 +1,4 @@
 -- A store is made where it has a place to go to. Assumes nothing.
-use mathlib.Core.Path.{_≡_, refl, sym, ap, _∙_}
 use Rattle.memory.specs.Bytes.{takes, targetIn}
 use borrow.Author.Needs.{needs}
 use Rattle.memory.proofs.bytes.takes_byte.Statement.{statement}

@@ -1,7 +1,6 @@
 -- Each test that led to an answer is the definition's, and the region is added last. Assumes nothing.
-use mathlib.Core.Path.{_≡_, refl, sym, ap, _∙_}
+use mathlib.Core.Path.{sym, _∙_}
 use denote.Ref.{now}
-use native.Mathlib.Omega.{arith}
 use borrow.Author.Tests.{not-true, not-false}
 use Rattle.memory.specs.Bytes.{lent}
 use Rattle.memory.proofs.Programs.{load-1, load-16, load-14, load-15, load-on}

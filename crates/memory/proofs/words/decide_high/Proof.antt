@@ -1,5 +1,5 @@
 -- The one test is the definition's. Assumes nothing.
-use mathlib.Core.Path.{_≡_, refl, sym, ap, _∙_}
+use mathlib.Core.Path.{sym, _∙_}
 use borrow.Author.Tests.{not-true, not-false}
 use Rattle.memory.specs.Words.{highDecision}
 use borrow.Author.Needs.{needs}

@@ -1,5 +1,5 @@
 -- The tests stand in the definition's order. Assumes nothing.
-use mathlib.Core.Path.{_≡_, refl, sym, ap, _∙_}
+use mathlib.Core.Path.{sym, _∙_}
 use borrow.Author.Tests.{not-true, not-false, eq-eqb, ne-eqb}
 use Rattle.memory.specs.Words.{wordDecision}
 use borrow.Author.Needs.{needs}

@@ -1,5 +1,5 @@
 -- Each change is stored at its place, the first one first. Assumes nothing.
-use mathlib.Core.Path.{_≡_, refl, sym, ap, _∙_}
+use mathlib.Core.Path.{_∙_}
 use Rattle.memory.specs.Words.{made}
 use borrow.Author.Needs.{needs}
 use Rattle.memory.proofs.words.make.Statement.{statement}

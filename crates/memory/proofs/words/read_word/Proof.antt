@@ -1,5 +1,5 @@
 -- The low byte is read first, and the high one only where the low one is mapped and has a next address. Assumes nothing.
-use mathlib.Core.Path.{_≡_, refl, sym, ap, _∙_}
+use mathlib.Core.Path.{sym, _∙_}
 use borrow.Author.Tests.{eq-eqb, ne-eqb}
 use Rattle.memory.specs.Words.{readWord, joined}
 use borrow.Author.Needs.{needs}

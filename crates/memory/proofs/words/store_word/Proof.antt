@@ -1,5 +1,5 @@
 -- What was decided is made, and that is the word's store. Assumes nothing.
-use mathlib.Core.Path.{_≡_, refl, sym, ap, _∙_}
+use mathlib.Core.Path.{ap, _∙_}
 use Rattle.memory.specs.declared.Decision.{Decision}
 use denote.Ref.{now}
 use Rattle.memory.specs.Bytes.{lent}
