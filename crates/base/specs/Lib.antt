@@ -1,3 +1,5 @@
 pub mod Choice
 pub mod Numbers
 pub mod Words
+pub mod Addresses
+pub mod Told

@@ -1,9 +1,14 @@
 // What every part shares: the refusals of document 01 with their numbers, the two bytes of a word,
-// and the two ways of counting along a program.
+// the sums of an address, and the two ways of counting along a program.
+mod addresses;
 mod counts;
 mod halves;
 mod refusals;
 
+pub use addresses::Reached;
+pub use addresses::base_plus_shift;
+pub use addresses::raised_pc;
+pub use addresses::second_address;
 pub use counts::ByteAddress;
 pub use counts::InstructionIndex;
 pub use counts::byte_address;
