@@ -1,16 +1,18 @@
 -- What the crates above may use of words: what becomes of a word's store in each case, and that it is read back. Assumes nothing.
 use mathlib.Core.Path.{_≡_, _∙_}
-use mathlib.Core.Bool.{Bool, true, false, not, _&&_}
+use mathlib.Core.Bool.{Bool, true, false}
 use Prim.Native.Nat.{ℕ, _+_}
 use native.Mathlib.Omega.{arith}
-use lib.Dec.{eqb}
-use borrow.Author.Tests.{ne-eqb}
+use Rattle.base.specs.Addresses.{secondAddress}
 use Rattle.base.specs.Choice.{cond}
 use Rattle.base.specs.Words.{wordOf, lowOf, highOf}
+use Rattle.base.specs.declared.addresses.Reached.{Reached}
+use Rattle.base.specs.declared.addresses.Reached.the-variants.{At, Past}
 use Rattle.base.specs.declared.refusals.Refusal.the-variants.{AddressOverflow}
+use Rattle.base.proofs.AddressLaws.{reached-is}
 use Rattle.map.specs.declared.Map.{Map}
 use Rattle.memory.specs.Bytes.{Lent, placeIn, readByte, takes, storeByte}
-use Rattle.memory.specs.Words.{joined, readWord, wordStored, storeWord}
+use Rattle.memory.specs.Words.{joined, readHigh, readWord, byteStored, highStored, wordStored, storeBoth, storeWord}
 use Rattle.memory.specs.declared.Read.the-variants.{Byte}
 use Rattle.memory.specs.declared.Stored.{Stored}
 use Rattle.memory.specs.declared.Stored.the-variants as stored
@@ -29,42 +31,48 @@ module _ (m : Map) (s : Lent) (a w : ℕ) where
   low-fails h = record { outcome = rw h; bytes = rw h }
 
   module _ (h : takes m s a ≡ true) where
-    -- at the last address: 3, and nothing is stored
-    pub past-end : eqb a 65535 ≡ true → WordStore m s a w (stored.Refused AddressOverflow) s
-    unfolding wordStored storeWord
+    -- past the last address: 3, and nothing is stored
+    pub past-end : secondAddress a ≡ Past → WordStore m s a w (stored.Refused AddressOverflow) s
+    unfolding wordStored highStored storeWord storeBoth
     past-end e = record { outcome = rw (h, e); bytes = rw (h, e) }
 
-    module _ (n : eqb a 65535 ≡ false) where
+    module _ (b : ℕ) (n : secondAddress a ≡ At b) where
       -- the high byte takes no store: the low one stays
-      pub high-fails : takes m s (a + 1) ≡ false → WordStore m s a w stored.Failed (storeByte m s a (lowOf w))
-      unfolding wordStored storeWord
+      pub high-fails : takes m s b ≡ false → WordStore m s a w stored.Failed (storeByte m s a (lowOf w))
+      unfolding wordStored highStored byteStored storeWord storeBoth
       high-fails k = record {
         outcome = rw (h, n, k);
-        bytes = rw (h, n) (refused-store m (storeByte m s a (lowOf w)) (a + 1) (highOf w) (takes-kept m s a (lowOf w) (a + 1) ∙ k));
+        bytes = rw (h, n) (refused-store m (storeByte m s a (lowOf w)) b (highOf w) (takes-kept m s a (lowOf w) b ∙ k));
       }
 
       -- low, then high
-      pub both-stored : takes m s (a + 1) ≡ true → WordStore m s a w stored.Done (storeByte m (storeByte m s a (lowOf w)) (a + 1) (highOf w))
-      unfolding wordStored storeWord
+      pub both-stored : takes m s b ≡ true → WordStore m s a w stored.Done (storeByte m (storeByte m s a (lowOf w)) b (highOf w))
+      unfolding wordStored highStored byteStored storeWord storeBoth
       both-stored k = record { outcome = rw (h, n, k); bytes = rw (h, n) }
+
+both-lengths : (m : Map) (s : Lent) (a : ℕ) (second : Reached) (w : ℕ) → SameLengths (storeBoth m s a second w) s
+unfolding storeBoth
+both-lengths m s a Past w = same-lengths s
+both-lengths m s a (At b) w = then-lengths (store-lengths m (storeByte m s a (lowOf w)) b (highOf w)) (store-lengths m s a (lowOf w))
 
 -- a word's store changes no length
 pub word-lengths : (m : Map) (s : Lent) (a w : ℕ) → SameLengths (storeWord m s a w) s
 unfolding storeWord
-word-lengths m s a w = go (takes m s a && not (eqb a 65535))
+word-lengths m s a w = go (takes m s a)
   where
-    go : (t : Bool) → SameLengths (cond t (storeByte m (storeByte m s a (lowOf w)) (a + 1) (highOf w)) s) s
-    go true = then-lengths (store-lengths m (storeByte m s a (lowOf w)) (a + 1) (highOf w)) (store-lengths m s a (lowOf w))
+    go : (t : Bool) → SameLengths (cond t (storeBoth m s a (secondAddress a) w) s) s
+    go true = both-lengths m s a (secondAddress a) w
     go false = same-lengths s
 
 -- reading a word that was stored gives it
-pub read-word-own : (m : Map) (s : Lent) (a w : ℕ) → takes m s a ≡ true → takes m s (a + 1) ≡ true → (a ≡ 65535 → ⊥) → readWord m (storeWord m s a w) a ≡ word.Word w
-unfolding readWord joined
-read-word-own m s a w h k n =
+pub read-word-own : (m : Map) (s : Lent) (a b w : ℕ) → takes m s a ≡ true → secondAddress a ≡ At b → takes m s b ≡ true → readWord m (storeWord m s a w) a ≡ word.Word w
+unfolding readWord readHigh joined
+read-word-own m s a b w h n k =
     let s₁ = storeByte m s a (lowOf w) in
-    let s₂ = storeByte m s₁ (a + 1) (highOf w) in
-    let e : storeWord m s a w ≡ s₂ = both-stored m s a w h (ne-eqb a 65535 n) k .bytes in
-    let low : readByte m s₂ a ≡ Byte (lowOf w) (placeIn m s a) = read-other m s₁ (a + 1) (highOf w) a (λ q. omega arith) ∙ read-own m s a (lowOf w) h in
-    let high : readByte m s₂ (a + 1) ≡ Byte (highOf w) (placeIn m s₁ (a + 1)) = read-own m s₁ (a + 1) (highOf w) (takes-kept m s a (lowOf w) (a + 1) ∙ k) in
+    let s₂ = storeByte m s₁ b (highOf w) in
+    let next : b ≡ a + 1 = reached-is (a + 1) b n in
+    let e : storeWord m s a w ≡ s₂ = both-stored m s a w h b n k .bytes in
+    let low : readByte m s₂ a ≡ Byte (lowOf w) (placeIn m s a) = read-other m s₁ b (highOf w) a (λ q. omega arith) ∙ read-own m s a (lowOf w) h in
+    let high : readByte m s₂ b ≡ Byte (highOf w) (placeIn m s₁ b) = read-own m s₁ b (highOf w) (takes-kept m s a (lowOf w) b ∙ k) in
     let sum : wordOf (lowOf w) (highOf w) ≡ w = omega arith in
-    rw (e, low, ne-eqb a 65535 n, high, sum)
+    rw (e, low, n, high, sum)

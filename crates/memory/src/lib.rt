@@ -14,6 +14,7 @@ pub use bytes::store_byte;
 pub use bytes::takes_byte;
 use map::Place;
 pub use program::write_program;
+pub use words::decide_byte;
 pub use words::decide_word;
 pub use words::make;
 pub use words::read_word;

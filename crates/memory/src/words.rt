@@ -7,30 +7,59 @@ use crate::Stored;
 use crate::WordRead;
 use crate::bytes::read_byte;
 use crate::bytes::store_at;
+use base::Reached;
 use base::Refusal;
 use map::Map;
 ghost use mathlib.Core.Path.{_≡_};
 ghost use Rattle.memory.specs.Bytes.{lent};
-ghost use Rattle.memory.specs.Words.{readWord, wordDecision, highDecision, made, wordStored, storeWord};
+ghost use Rattle.memory.specs.Words.{joined, readWord, byteDecision, wordDecision, highDecision, made, wordStored, storeWord};
+
+fn join(low: u8, high: Read) -> WordRead
+    ensures { λ r. ⌜ r ≡ joined low high ⌝ }
+{
+    match high {
+        Read::Byte(v, _) => WordRead::Word(base::word(low, v)),
+        Read::Unmapped => WordRead::NoWord,
+    }
+}
 
 pub fn read_word(m: Map, mem: &[u8], dev: &[u8], a: u16) -> WordRead
     ensures { λ r. ⌜ r ≡ readWord m (lent (now (mem .entry)) (now (dev .entry))) a ⌝ }
 {
     match read_byte(m, mem, dev, a) {
         Read::Byte(low, _) => {
-            if a == 65535 {
-                return WordRead::Refused(Refusal::AddressOverflow);
-            }
-            match read_byte(m, mem, dev, a + 1) {
-                Read::Byte(high, _) => WordRead::Word(base::word(low, high)),
-                Read::Unmapped => WordRead::NoWord,
+            match base::second_address(a) {
+                Reached::At(b) => join(low, read_byte(m, mem, dev, b)),
+                Reached::Past => WordRead::Refused(Refusal::AddressOverflow),
             }
         }
         Read::Unmapped => WordRead::NoWord,
     }
 }
 
-// What storing a word comes to, with mem bytes of linear memory and dev bytes in the device buffer.
+// What storing a byte comes to, with mem bytes of linear memory and dev bytes in the device buffer.
+pub fn decide_byte(m: Map, mem: usize, dev: usize, a: u16, v: u8) -> Decision
+    ensures { λ d. ⌜ d ≡ byteDecision m mem dev a v ⌝ }
+{
+    let place = map::target_of(m, mem, dev, a);
+    if !map::is_somewhere(place) {
+        return Decision {
+            outcome: Stored::Failed,
+            changes: Changes::Nothing,
+        };
+    }
+    let x = Change {
+        address: a,
+        place,
+        byte: v,
+    };
+    Decision {
+        outcome: Stored::Done,
+        changes: Changes::One(x),
+    }
+}
+
+// What storing a word comes to, over the same.
 pub fn decide_word(m: Map, mem: usize, dev: usize, a: u16, w: u16) -> Decision
     ensures { λ d. ⌜ d ≡ wordDecision m mem dev a w ⌝ }
 {
@@ -41,18 +70,18 @@ pub fn decide_word(m: Map, mem: usize, dev: usize, a: u16, w: u16) -> Decision
             changes: Changes::Nothing,
         };
     }
-    if a == 65535 {
-        return Decision {
-            outcome: Stored::Refused(Refusal::AddressOverflow),
-            changes: Changes::Nothing,
-        };
-    }
     let first = Change {
         address: a,
         place,
         byte: base::low(w),
     };
-    decide_high(m, mem, dev, a + 1, w, first)
+    match base::second_address(a) {
+        Reached::At(b) => decide_high(m, mem, dev, b, w, first),
+        Reached::Past => Decision {
+            outcome: Stored::Refused(Refusal::AddressOverflow),
+            changes: Changes::Nothing,
+        },
+    }
 }
 
 // The same, once the low byte is known to be taken and the high byte to have an address.

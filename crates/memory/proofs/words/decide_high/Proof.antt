@@ -1,6 +1,8 @@
 -- The one test is the definition's. Assumes nothing.
-use mathlib.Core.Path.{sym, _∙_}
+use mathlib.Core.Path.{_≡_, sym, ap, _∙_}
+use mathlib.Core.Bool.{true, false}
 use borrow.Author.Tests.{not-true, not-false}
+use Rattle.map.specs.Places.{somewhere, target}
 use Rattle.memory.specs.Words.{highDecision}
 use borrow.Author.Needs.{needs}
 use Rattle.memory.proofs.words.decide_high.Statement.{statement}
@@ -14,14 +16,20 @@ is-somewhere-requires c κs = search needs
 
 returns : tie.Need-returns
 unfolding highDecision
-returns c = rw (← c .before .before .target-of .ensures, sym (c .before .is-somewhere .ensures) ∙ not-true _ (c .if1 .taken))
+returns c =
+    let x = c .before .before .before .args in
+    let e : somewhere (target (x .m) (x .mem) (x .dev) (x .a)) ≡ false = ap somewhere (sym (c .before .before .target-of .ensures)) ∙ sym (c .before .is-somewhere .ensures) ∙ not-true _ (c .if1 .taken) in
+    rw e
 
 high-requires : tie.Need-high-requires
 high-requires c κs = search needs
 
 returns-2 : tie.Need-returns-2
 unfolding highDecision
-returns-2 c = rw (← c .before .before .before .target-of .ensures, sym (c .before .before .is-somewhere .ensures) ∙ not-false _ (c .before .if1 .left), c .high .ensures)
+returns-2 c =
+    let x = c .before .before .before .before .args in
+    let e : somewhere (target (x .m) (x .mem) (x .dev) (x .a)) ≡ true = ap somewhere (sym (c .before .before .before .target-of .ensures)) ∙ sym (c .before .before .is-somewhere .ensures) ∙ not-false _ (c .before .if1 .left) in
+    rw (c .before .before .before .target-of .ensures, c .high .ensures, e)
 
 pub decide-high-spec : {M : Type 1} → statement M
 decide-high-spec =

@@ -1,7 +1,11 @@
 -- The tests stand in the definition's order. Assumes nothing.
-use mathlib.Core.Path.{sym, _∙_}
-use borrow.Author.Tests.{not-true, not-false, eq-eqb, ne-eqb}
-use Rattle.memory.specs.Words.{wordDecision}
+use mathlib.Core.Path.{_≡_, sym, ap, _∙_}
+use mathlib.Core.Bool.{true, false}
+use borrow.Author.Tests.{not-true, not-false}
+use Rattle.base.specs.Addresses.{secondAddress}
+use Rattle.base.specs.declared.addresses.Reached.the-variants.{At, Past}
+use Rattle.map.specs.Places.{somewhere, target}
+use Rattle.memory.specs.Words.{wordDecision, bothDecision}
 use borrow.Author.Needs.{needs}
 use Rattle.memory.proofs.words.decide_word.Statement.{statement}
 use Rattle.memory.proofs.words.decide_word.Tie as tie
@@ -14,24 +18,41 @@ is-somewhere-requires c κs = search needs
 
 returns : tie.Need-returns
 unfolding wordDecision
-returns c = rw (← c .before .before .target-of .ensures, sym (c .before .is-somewhere .ensures) ∙ not-true _ (c .if1 .taken))
-
-returns-2 : tie.Need-returns-2
-unfolding wordDecision
-returns-2 c = rw (← c .before .before .before .target-of .ensures, sym (c .before .before .is-somewhere .ensures) ∙ not-false _ (c .before .if1 .left), eq-eqb _ _ (c .if2 .taken))
+returns c =
+    let x = c .before .before .before .args in
+    let e : somewhere (target (x .m) (x .mem) (x .dev) (x .a)) ≡ false = ap somewhere (sym (c .before .before .target-of .ensures)) ∙ sym (c .before .is-somewhere .ensures) ∙ not-true _ (c .if1 .taken) in
+    rw e
 
 low-requires : tie.Need-low-requires
 low-requires c κs = search needs
 
-add-decide-high : tie.Need-add-decide-high
-add-decide-high c = search needs
+second-address-requires : tie.Need-second-address-requires
+second-address-requires c κs = search needs
+
+enum-known-b : tie.Need-enum-known-b
+enum-known-b c = search needs
 
 decide-high-requires : tie.Need-decide-high-requires
 decide-high-requires c κs = search needs
 
+enum-told : tie.Need-enum-told
+enum-told c = search needs
+
+returns-2 : tie.Need-returns-2
+unfolding wordDecision bothDecision
+returns-2 c =
+    let x = c .before .before .before .before .before .before .before .before .before .args in
+    let e : somewhere (target (x .m) (x .mem) (x .dev) (x .a)) ≡ true = ap somewhere (sym (c .before .before .before .before .before .before .before .before .target-of .ensures)) ∙ sym (c .before .before .before .before .before .before .before .is-somewhere .ensures) ∙ not-false _ (c .before .before .before .before .before .before .if1 .left) in
+    let n : secondAddress (x .a) ≡ At (c .before .before .b .given .0 .0) = sym (c .before .before .before .before .second-address .ensures) ∙ c .before .before .b .given .1 in
+    c .decide-high .ensures ∙ rw (c .before .before .before .before .before .before .before .before .target-of .ensures, c .before .before .before .before .before .low .ensures, e, n)
+
 returns-3 : tie.Need-returns-3
-unfolding wordDecision
-returns-3 c = rw (← c .before .before .before .before .before .target-of .ensures, sym (c .before .before .before .before .is-somewhere .ensures) ∙ not-false _ (c .before .before .before .if1 .left), ne-eqb _ _ (c .before .before .if2 .left), ← c .before .low .ensures) (c .decide-high .ensures)
+unfolding wordDecision bothDecision
+returns-3 c =
+    let x = c .before .before .before .before .before .before .before .args in
+    let e : somewhere (target (x .m) (x .mem) (x .dev) (x .a)) ≡ true = ap somewhere (sym (c .before .before .before .before .before .before .target-of .ensures)) ∙ sym (c .before .before .before .before .before .is-somewhere .ensures) ∙ not-false _ (c .before .before .before .before .if1 .left) in
+    let n : secondAddress (x .a) ≡ Past = sym (c .before .before .second-address .ensures) ∙ c .enum-told .given .1 in
+    rw (e, n)
 
 pub decide-word-spec : {M : Type 1} → statement M
 decide-word-spec =
@@ -40,8 +61,10 @@ decide-word-spec =
     target-of-requires
     is-somewhere-requires
     returns
-    returns-2
     low-requires
-    add-decide-high
+    second-address-requires
+    enum-known-b
     decide-high-requires
+    enum-told
+    returns-2
     returns-3)
