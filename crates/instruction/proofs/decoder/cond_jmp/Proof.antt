@@ -1,0 +1,25 @@
+-- The operand's form picks the instruction, as it does in the definition. Assumes nothing.
+use Rattle.instruction.specs.Decode.{arm, arms}
+use borrow.Author.Needs.{needs}
+use Rattle.instruction.proofs.decoder.cond_jmp.Statement.{statement}
+use Rattle.instruction.proofs.decoder.cond_jmp.Tie as tie
+
+operand-at-requires : tie.Need-operand-at-requires
+operand-at-requires c κs = search needs
+
+enum-told : tie.Need-enum-told
+enum-told c = search needs
+
+enum-told-2 : tie.Need-enum-told-2
+enum-told-2 c = search needs
+
+returns : tie.Need-returns
+unfolding arm arms
+returns c = rw (← (c .before .before .operand-at .ensures), c .enum-told .given .1)
+
+returns-2 : tie.Need-returns-2
+unfolding arm arms
+returns-2 c = rw (← (c .before .before .operand-at .ensures), c .enum-told2 .given .1)
+
+pub cond-jmp-spec : {M : Type 1} → statement M
+cond-jmp-spec = tie.close (tie.spec operand-at-requires enum-told enum-told-2 returns returns-2)

@@ -1,0 +1,46 @@
+-- A field fits where it does not exceed its width in the table.
+use Prim.Native.Nat.{ℕ, _^_}
+use mathlib.Core.Bool.{Bool, true, false, _&&_}
+use lib.Dec.{ltb}
+use Rattle.instruction.specs.declared.Operand.{Operand}
+use Rattle.instruction.specs.declared.Operand.the-variants.{Reg, Imm}
+use Rattle.instruction.specs.declared.Instruction.{Instruction}
+use Rattle.instruction.specs.declared.Instruction.the-variants.{Noop, Mov, MovShift, Arith, ArithRegReg, LdrStr, LdbStb, Cpy, Jmp, CondJmp, Cmp, CallRet}
+
+abbrev pub within : ℕ → ℕ → Bool
+within width v = ltb v (2 ^ width)
+
+-- a register has three bits wherever it stands, and eight numbers
+abbrev pub operandFits : ℕ → Operand → Bool
+operandFits width (Reg r) = true
+operandFits width (Imm v) = within width v
+
+abbrev pub fits : Instruction → Bool
+fits Noop = true
+fits (Mov d o) = operandFits 8 o
+fits (MovShift r amount left v) = within 3 amount && within 5 v
+fits (Arith d o k) = operandFits 6 o
+fits (LdrStr r a store shift) = within 5 shift
+fits (CondJmp o) = operandFits 11 o
+fits (Jmp o) = operandFits 11 o
+fits (Cmp r o k) = operandFits 5 o
+fits (LdbStb r a store shift) = within 5 shift
+fits (Cpy s t) = true
+fits (ArithRegReg d a b k) = true
+fits (CallRet ret address) = within 11 address
+
+-- its form is one that decoding answers with: register-mode 5 decodes to Jmp, so that no word says a CondJmp to a register
+abbrev pub decodable : Instruction → Bool
+decodable Noop = true
+decodable (Mov d o) = true
+decodable (MovShift r amount left v) = true
+decodable (Arith d o k) = true
+decodable (LdrStr r a store shift) = true
+decodable (CondJmp (Reg r)) = false
+decodable (CondJmp (Imm v)) = true
+decodable (Jmp o) = true
+decodable (Cmp r o k) = true
+decodable (LdbStb r a store shift) = true
+decodable (Cpy s t) = true
+decodable (ArithRegReg d a b k) = true
+decodable (CallRet ret address) = true

@@ -1,0 +1,4 @@
+pub mod Codes
+pub mod Decode
+pub mod Encode
+pub mod Fits

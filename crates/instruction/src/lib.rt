@@ -1,0 +1,85 @@
+// The instructions: what a word says, and the word of an instruction.
+mod codes;
+mod decoder;
+mod encoder;
+
+use base::Refusal;
+pub use codes::register_code;
+pub use decoder::decode;
+pub use encoder::encode;
+
+pub enum Register {
+    A,
+    B,
+    C,
+    M,
+    SP,
+    PC,
+    BP,
+    // bit 0 halts the machine, bit 1 has a division store its remainder, bit 2 says that a store failed,
+    // bit 3 that a comparison was true
+    FLAGS,
+}
+
+// Where an instruction takes its number from.
+pub enum Operand {
+    Reg(Register),
+    Imm(u16),
+}
+
+// The four operators of Arith.
+pub enum ArithOp {
+    Add,
+    Sub,
+    Mul,
+    Div,
+}
+
+// The seven of ArithRegReg.
+pub enum ArithmeticOp {
+    Add,
+    Sub,
+    Mul,
+    Div,
+    Mod,
+    Exp,
+    Sqrt,
+}
+
+pub enum CompareOp {
+    Eq,
+    NotEq,
+    Less,
+    LessEq,
+    Greater,
+    GreaterEq,
+}
+
+pub enum Instruction {
+    Noop,
+    // destination, source
+    Mov(Register, Operand),
+    // register, amount, left (else right), immediate
+    MovShift(Register, u8, bool, u16),
+    // destination and first number, second number, operator
+    Arith(Register, Operand, ArithOp),
+    // destination, first, second, operator
+    ArithRegReg(Register, Register, Register, ArithmeticOp),
+    // register, address register, store (else load), shift
+    LdrStr(Register, Register, bool, u8),
+    LdbStb(Register, Register, bool, u8),
+    // register with the source's address, register with the target's
+    Cpy(Register, Register),
+    Jmp(Operand),
+    CondJmp(Operand),
+    // first number, second number, comparison
+    Cmp(Register, Operand, CompareOp),
+    // return (else call), address
+    CallRet(bool, u16),
+}
+
+// What decoding a word answers.
+pub enum Decoded {
+    Ok(Instruction),
+    Refused(Refusal),
+}
