@@ -1,0 +1,159 @@
+-- What printing answers and leaves, by whether the text fits; and a text's length, which is at most the sum of its parts' bounds,
+-- with five digits for an amount as for any number. Assumes nothing.
+use mathlib.Core.Path.{_≡_}
+use mathlib.Core.Bool.{Bool, true, false}
+use mathlib.Core.List.{List, _++_}
+use Prim.Native.Nat.{ℕ, _+_, _≤_, _<_}
+use native.Mathlib.Omega.{arith}
+use borrow.Author.Tests.{le-leb, lt-leb}
+use lib.Dec.{eqb}
+use lib.ListN.{length, length-append}
+use Rattle.base.specs.Choice.{cond}
+use Rattle.base.specs.Told.{is, no}
+use Rattle.instruction.specs.declared.Register.{Register}
+use Rattle.instruction.specs.declared.Register.the-variants.{A, B, C, M, SP, PC, BP, FLAGS}
+use Rattle.instruction.specs.declared.Operand.{Operand}
+use Rattle.instruction.specs.declared.Operand.the-variants.{Reg, Imm}
+use Rattle.instruction.specs.declared.ArithOp.{ArithOp}
+use Rattle.instruction.specs.declared.ArithOp.the-variants as four
+use Rattle.instruction.specs.declared.ArithmeticOp.{ArithmeticOp}
+use Rattle.instruction.specs.declared.ArithmeticOp.the-variants as seven
+use Rattle.instruction.specs.declared.CompareOp.{CompareOp}
+use Rattle.instruction.specs.declared.CompareOp.the-variants.{Eq, NotEq, Less, LessEq, Greater, GreaterEq}
+use Rattle.instruction.specs.declared.Instruction.{Instruction}
+use Rattle.instruction.specs.declared.Instruction.the-variants.{Noop, Mov, MovShift, Arith, ArithRegReg, LdrStr, LdbStb, Cpy, Jmp, CondJmp, Cmp, CallRet}
+use Rattle.printer.specs.Text.{bytes, decimalOf, immediateOf, registerName, arithName, arithmeticName, compareName, shiftName, wordName, byteName, operandOf, one, pair, three, bracketed, shifted, addressOf, addressed, callText, text}
+use Rattle.printer.specs.Print.{placed, printNext, printBuffer}
+use Rattle.printer.proofs.DecimalLaws.{digits-length}
+
+module _ (i : Instruction) (at : ℕ) where
+  pub next-fits : (room : ℕ) → at + length (text i) ≤ room → printNext i room at ≡ is (at + length (text i))
+  unfolding printNext
+  next-fits room h = rw (le-leb _ _ h)
+
+  pub next-19 : (room : ℕ) → room < at + length (text i) → printNext i room at ≡ no 19
+  unfolding printNext
+  next-19 room h = rw (lt-leb _ _ h)
+
+  pub buffer-fits : (buffer : List ℕ) → at + length (text i) ≤ length buffer → printBuffer i buffer at ≡ placed (text i) buffer at
+  unfolding printBuffer
+  buffer-fits buffer h = rw (le-leb _ _ h)
+
+  pub buffer-19 : (buffer : List ℕ) → length buffer < at + length (text i) → printBuffer i buffer at ≡ buffer
+  unfolding printBuffer
+  buffer-19 buffer h = rw (lt-leb _ _ h)
+
+-- ---- lengths
+
+immediate-length : (n : ℕ) → length (immediateOf n) ≤ 6
+unfolding immediateOf decimalOf
+immediate-length n = omega (arith, digits-length 5 n)
+
+register-length : (r : Register) → length (registerName r) ≤ 5
+unfolding registerName
+register-length A = omega arith
+register-length B = omega arith
+register-length C = omega arith
+register-length M = omega arith
+register-length SP = omega arith
+register-length PC = omega arith
+register-length BP = omega arith
+register-length FLAGS = omega arith
+
+arith-length : (op : ArithOp) → length (arithName op) ≤ 3
+unfolding arithName
+arith-length four.Add = omega arith
+arith-length four.Sub = omega arith
+arith-length four.Mul = omega arith
+arith-length four.Div = omega arith
+
+arithmetic-length : (op : ArithmeticOp) → length (arithmeticName op) ≤ 5
+unfolding arithmeticName
+arithmetic-length seven.Add = omega arith
+arithmetic-length seven.Sub = omega arith
+arithmetic-length seven.Mul = omega arith
+arithmetic-length seven.Div = omega arith
+arithmetic-length seven.Mod = omega arith
+arithmetic-length seven.Exp = omega arith
+arithmetic-length seven.Sqrt = omega arith
+
+compare-length : (op : CompareOp) → length (compareName op) ≤ 3
+unfolding compareName
+compare-length Eq = omega arith
+compare-length NotEq = omega arith
+compare-length Less = omega arith
+compare-length LessEq = omega arith
+compare-length Greater = omega arith
+compare-length GreaterEq = omega arith
+
+shift-length : (left : Bool) → length (shiftName left) ≤ 3
+unfolding shiftName
+shift-length true = omega arith
+shift-length false = omega arith
+
+word-length : (store : Bool) → length (wordName store) ≤ 3
+unfolding wordName
+word-length true = omega arith
+word-length false = omega arith
+
+byte-length : (store : Bool) → length (byteName store) ≤ 3
+unfolding byteName
+byte-length true = omega arith
+byte-length false = omega arith
+
+operand-length : (o : Operand) → length (operandOf o) ≤ 6
+unfolding operandOf
+operand-length (Reg r) = omega (arith, register-length r)
+operand-length (Imm n) = immediate-length n
+
+one-length : (o : Operand) → length (one o) ≤ 7
+unfolding one
+one-length o = omega (arith, operand-length o)
+
+pair-length : (r : Register) (o : Operand) → length (pair r o) ≤ 14
+unfolding pair
+pair-length r o = simp length-append (omega (arith, register-length r, operand-length o))
+
+three-length : (d a b : Register) → length (three d a b) ≤ 20
+unfolding three pair operandOf
+three-length d a b = simp length-append (omega (arith, register-length d, register-length a, register-length b))
+
+bracketed-length : (first second : ℕ) → length (bracketed first second) ≤ 15
+unfolding bracketed
+bracketed-length first second = simp length-append (omega (arith, immediate-length first, immediate-length second))
+
+shifted-length : (r : Register) (amount imm : ℕ) → length (shifted r amount imm) ≤ 23
+unfolding shifted
+shifted-length r amount imm = simp length-append (omega (arith, register-length r, bracketed-length amount imm))
+
+address-length : (a : Register) (shift : ℕ) → length (addressOf a shift) ≤ 14
+unfolding addressOf
+address-length a shift = go (eqb shift 0)
+  where
+    go : (t : Bool) → length (cond t (registerName a) (bytes "[" ++ registerName a ++ bytes " " ++ immediateOf shift ++ bytes "]")) ≤ 14
+    go true = omega (arith, register-length a)
+    go false = simp length-append (omega (arith, register-length a, immediate-length shift))
+
+addressed-length : (r a : Register) (shift : ℕ) → length (addressed r a shift) ≤ 22
+unfolding addressed
+addressed-length r a shift = simp length-append (omega (arith, register-length r, address-length a shift))
+
+call-length : (ret : Bool) (a : ℕ) → length (callText ret a) ≤ 11
+unfolding callText
+call-length true a = omega arith
+call-length false a = omega (arith, one-length (Imm a))
+
+pub text-length : (i : Instruction) → length (text i) ≤ 26
+unfolding text
+text-length Noop = omega arith
+text-length (Mov d o) = omega (arith, pair-length d o)
+text-length (MovShift r amount left imm) = rw length-append (omega (arith, shift-length left, shifted-length r amount imm))
+text-length (Arith d o op) = rw length-append (omega (arith, arith-length op, pair-length d o))
+text-length (ArithRegReg d a b op) = rw length-append (omega (arith, arithmetic-length op, three-length d a b))
+text-length (LdrStr r a store shift) = rw length-append (omega (arith, word-length store, addressed-length r a shift))
+text-length (LdbStb r a store shift) = rw length-append (omega (arith, byte-length store, addressed-length r a shift))
+text-length (Cpy a b) = omega (arith, pair-length a (Reg b))
+text-length (Jmp o) = omega (arith, one-length o)
+text-length (CondJmp o) = omega (arith, one-length o)
+text-length (Cmp r o op) = rw length-append (omega (arith, compare-length op, pair-length r o))
+text-length (CallRet ret a) = omega (arith, call-length ret a)

@@ -1,0 +1,17 @@
+// The text of an instruction, as a listing shows it. The text is made whole in a line of its own and copied afterwards, so that
+// a refusal has written nothing.
+mod decimals;
+mod lines;
+mod names;
+mod operands;
+mod prints;
+mod texts;
+
+use base::Refusal;
+pub use prints::print;
+
+// What printing answers: the position after the text, or the refusal.
+pub enum Printed {
+    Next(usize),
+    Refused(Refusal),
+}

@@ -1,0 +1,40 @@
+// Printing into a lent buffer.
+use crate::Printed;
+use crate::texts::line_of;
+use base::Refusal;
+use instruction::Instruction;
+ghost use mathlib.Core.Path.{_≡_};
+ghost use lib.ListN.{length};
+ghost use Prim.Native.Nat.{_+_, _≤_};
+ghost use Rattle.printer.specs.Print.{placed, printed, printNext, printBuffer};
+
+// Copies the text into out from position at on.
+fn copy(text: &[u8], out: &mut [u8], at: usize)
+    requires { ⌜ at + length (now text) ≤ length (now out) ⌝ }
+    ensures { λ _. ⌜ now (out .exit) ≡ placed (now (text .entry)) (now (out .entry)) at ⌝ }
+{
+    let mut i: usize = 0;
+    while i < text.len() {
+        out[at + i] = text[i];
+        i += 1;
+    }
+}
+
+// Writes the instruction's text into out from position at on, and answers the position after it; 19 where it doesn't fit, and then
+// nothing is written. All other bytes of out stay.
+pub fn print(i: Instruction, out: &mut [u8], at: usize) -> Printed
+    ensures { λ r. ⌜ printed r ≡ printNext i (length (now (out .entry))) at ⌝ }
+    ensures { λ _. ⌜ now (out .exit) ≡ printBuffer i (now (out .entry)) at ⌝ }
+{
+    let l = line_of(i);
+    let bytes = l.bytes;
+    let n = l.len;
+    if out.len() < at {
+        return Printed::Refused(Refusal::NoRoom);
+    }
+    if out.len() - at < n {
+        return Printed::Refused(Refusal::NoRoom);
+    }
+    copy(&bytes[..n], out, at);
+    Printed::Next(at + n)
+}
