@@ -1,0 +1,5 @@
+pub mod Powers
+pub mod Products
+pub mod Lost
+pub mod Laws
+pub mod FlagLaws
