@@ -1,0 +1,116 @@
+-- What the crates above may use of a step: what is not accepted changes nothing, and every step keeps lengths, tables and
+-- validity, since a plan is made by memory alone. Assumes nothing.
+use mathlib.Core.Path.{_≡_, refl, sym, ap, _∙_}
+use mathlib.Core.Bool.{Bool, true, false}
+use mathlib.Core.List.{List}
+use Prim.Native.Nat.{ℕ, _+_, _≤_}
+use native.Mathlib.Omega.{arith}
+use lib.ListN.{length}
+use Rattle.base.specs.Choice.{cond}
+use Rattle.base.specs.Told.{Told, is, no}
+use Rattle.base.specs.Addresses.{raisedPc}
+use Rattle.base.specs.declared.addresses.Reached.the-variants.{At}
+use Rattle.base.proofs.AddressLaws.{reached-at}
+use Rattle.instruction.specs.Decode.{decode}
+use Rattle.instruction.specs.declared.Register.the-variants.{PC}
+use Rattle.instruction.specs.declared.Instruction.the-variants.{Noop}
+use Rattle.map.proofs.Laws.{valid-length}
+use Rattle.memory.specs.Bytes.{Lent}
+use Rattle.memory.specs.Words.{readWord, made}
+use Rattle.memory.specs.declared.Changes.the-variants.{Nothing}
+use Rattle.memory.specs.declared.WordRead.the-variants as word
+use Rattle.memory.proofs.Laws.{SameLengths, same-lengths}
+use Rattle.memory.proofs.Decisions.{made-lengths, nothing-made}
+use Rattle.machine.specs.Answers.{State, Continue, Debug, Stop}
+use Rattle.machine.specs.Registers.{get, put, flag}
+use Rattle.machine.specs.Acts.{noop, act}
+use Rattle.machine.specs.Plan.{Planned, plans, raised, finished, decoded, fetched, plan}
+use Rattle.machine.specs.Step.{After, after, committed, step}
+use Rattle.machine.specs.States.{valid, with}
+use Rattle.machine.specs.declared.Machine.{Machine}
+use Rattle.machine.proofs.PlanLaws.{plan-refused}
+use Rattle.machine.proofs.RegisterLaws.{get-own}
+
+module _ (m : Machine) (b : Lent) where
+  -- ---- a step, valid state or not
+
+  pub invalid-step : valid m (b .dev) ≡ false → step m b ≡ after (no 1) m b
+  unfolding step
+  invalid-step h = rw h
+
+  pub valid-step : valid m (b .dev) ≡ true → step m b ≡ committed m b (plan m b)
+  unfolding step
+  valid-step h = rw h
+
+  -- ---- what is not accepted changes nothing
+
+  -- a plan that leaves the registers and stores nothing
+  nothing-done : (a : Told State) → plan m b ≡ plans a (m .registers) Nothing → committed m b (plan m b) ≡ after a m b
+  unfolding committed
+  nothing-done a e = ap (committed m b) e ∙ ap (λ (x : Lent). after a m x) (nothing-made b)
+
+  -- a refused step
+  pub step-refused : (n : ℕ) → step m b .answer ≡ no n → step m b ≡ after (no n) m b
+  unfolding committed
+  step-refused n = go (valid m (b .dev)) refl
+    where
+      answer-of : valid m (b .dev) ≡ true → step m b .answer ≡ plan m b .answer
+      answer-of h = ap (λ (x : After). x .answer) (valid-step h)
+
+      go : (t : Bool) → valid m (b .dev) ≡ t → step m b .answer ≡ no n → step m b ≡ after (no n) m b
+      go false h e = invalid-step h ∙ ap (λ (a : Told State). after a m b) (sym (ap (λ (x : After). x .answer) (invalid-step h)) ∙ e)
+      go true h e = valid-step h ∙ nothing-done (no n) (plan-refused m b n (sym (answer-of h) ∙ e))
+
+  -- Stop, which FLAGS bit 0 alone decides
+  pub step-stops : valid m (b .dev) ≡ true → flag (m .registers) 0 ≡ true → step m b ≡ after (is Stop) m b
+  unfolding plan
+  step-stops h f = valid-step h ∙ nothing-done (is Stop) (rw f)
+
+  -- ---- what every step keeps
+
+  pub step-lengths : SameLengths (step m b .bytes) b
+  unfolding committed
+  step-lengths = go (valid m (b .dev)) refl
+    where
+      go : (t : Bool) → valid m (b .dev) ≡ t → SameLengths (step m b .bytes) b
+      go false h = rw (invalid-step h) (same-lengths b)
+      go true h = rw (valid-step h) (made-lengths (plan m b .changes) b)
+
+  pub step-map : step m b .machine .map ≡ m .map
+  unfolding committed
+  step-map = go (valid m (b .dev)) refl
+    where
+      go : (t : Bool) → valid m (b .dev) ≡ t → step m b .machine .map ≡ m .map
+      go false h = ap (λ (x : After). x .machine .map) (invalid-step h)
+      go true h = ap (λ (x : After). x .machine .map) (valid-step h)
+
+  pub step-mode : step m b .machine .mode ≡ m .mode
+  unfolding committed
+  step-mode = go (valid m (b .dev)) refl
+    where
+      go : (t : Bool) → valid m (b .dev) ≡ t → step m b .machine .mode ≡ m .mode
+      go false h = ap (λ (x : After). x .machine .mode) (invalid-step h)
+      go true h = ap (λ (x : After). x .machine .mode) (valid-step h)
+
+  -- a valid state stays valid
+  pub step-valid : valid m (b .dev) ≡ true → valid (step m b .machine) (step m b .bytes .dev) ≡ true
+  unfolding valid
+  step-valid h = rw step-map (valid-length (m .map) (step m b .bytes .dev) (b .dev) (step-lengths .dev) ∙ h)
+
+  -- ---- Noop raises PC, and does nothing else
+
+  pub step-noop : (w n : ℕ) → valid m (b .dev) ≡ true → flag (m .registers) 0 ≡ false
+      → readWord (m .map) b (get (m .registers) PC) ≡ word.Word w → decode w ≡ is Noop → raisedPc (get (m .registers) PC) ≡ At n
+      → step m b ≡ after (is (cond (m .mode .debug) Debug Continue)) (with m (put (m .registers) PC n)) b
+  unfolding committed plan fetched decoded finished raised act noop
+  step-noop w n h f r d p =
+      let e : plan m b ≡ plans (is (cond (m .mode .debug) Debug Continue)) (put (m .registers) PC n) Nothing = rw (f, r, d, p) in
+      valid-step h ∙ ap (committed m b) e ∙ ap (λ (x : Lent). after (is (cond (m .mode .debug) Debug Continue)) (with m (put (m .registers) PC n)) x) (nothing-made b)
+
+  -- so a step that does nothing is ruled out
+  pub noop-raises : (w : ℕ) → valid m (b .dev) ≡ true → flag (m .registers) 0 ≡ false
+      → readWord (m .map) b (get (m .registers) PC) ≡ word.Word w → decode w ≡ is Noop → get (m .registers) PC + 2 ≤ 65535 → length (m .registers .value) ≡ 8
+      → get (step m b .machine .registers) PC ≡ get (m .registers) PC + 2
+  noop-raises w h f r d p l =
+      ap (λ (x : After). get (x .machine .registers) PC) (step-noop w (get (m .registers) PC + 2) h f r d (reached-at (get (m .registers) PC + 2) p))
+      ∙ get-own (m .registers) PC (get (m .registers) PC + 2) l

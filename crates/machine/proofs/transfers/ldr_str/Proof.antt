@@ -1,0 +1,56 @@
+-- There is an address, or the step is refused. Assumes nothing.
+use mathlib.Core.Path.{_≡_, sym, ap, _∙_}
+use Prim.Native.Nat.{ℕ}
+use Rattle.base.specs.Addresses.{basePlusShift}
+use Rattle.base.specs.declared.addresses.Reached.the-variants.{At, Past}
+use Rattle.machine.specs.Registers.{get}
+use Rattle.machine.specs.Acts.{ldrStr}
+use Rattle.machine.specs.Plan.{finished}
+use borrow.Author.Needs.{needs}
+use Rattle.machine.proofs.transfers.ldr_str.Statement.{statement}
+use Rattle.machine.proofs.transfers.ldr_str.Tie as tie
+
+get-requires : tie.Need-get-requires
+get-requires c κs = search needs
+
+base-plus-shift-requires : tie.Need-base-plus-shift-requires
+base-plus-shift-requires c κs = search needs
+
+enum-known-a : tie.Need-enum-known-a
+enum-known-a c = search needs
+
+word-at-requires : tie.Need-word-at-requires
+word-at-requires c κs = search needs
+
+enum-told : tie.Need-enum-told
+enum-told c = search needs
+
+refused-requires : tie.Need-refused-requires
+refused-requires c κs = search needs
+
+returns : tie.Need-returns
+unfolding ldrStr
+returns c =
+    let x = c .before .before .before .before .before .before .before .before .args in
+    let e : basePlusShift (get (x .s) (x .addr)) (x .shift) ≡ At (c .before .before .a .given .0 .0) = ap (λ (n : ℕ). basePlusShift n (x .shift)) (sym (c .before .before .before .before .before .get .ensures)) ∙ sym (c .before .before .before .before .base-plus-shift .ensures) ∙ c .before .before .a .given .1 in
+    c .word-at .ensures ∙ rw (e)
+
+returns-2 : tie.Need-returns-2
+unfolding ldrStr finished
+returns-2 c =
+    let x = c .before .before .before .before .before .before .before .args in
+    let e : basePlusShift (get (x .s) (x .addr)) (x .shift) ≡ Past = ap (λ (n : ℕ). basePlusShift n (x .shift)) (sym (c .before .before .before .before .get .ensures)) ∙ sym (c .before .before .before .base-plus-shift .ensures) ∙ c .before .enum-told .given .1 in
+    c .refused .ensures ∙ rw (e)
+
+pub ldr-str-spec : {M : Type 1} → statement M
+ldr-str-spec =
+    tie.close
+    (tie.spec
+    get-requires
+    base-plus-shift-requires
+    enum-known-a
+    word-at-requires
+    enum-told
+    refused-requires
+    returns
+    returns-2)

@@ -1,0 +1,7 @@
+pub mod Answers
+pub mod Registers
+pub mod Acts
+pub mod States
+pub mod Plan
+pub mod Step
+pub mod Marked

@@ -1,0 +1,132 @@
+// Loads, stores and Cpy: what goes between registers and memory. Memory is read here, and nothing is stored yet.
+use crate::Plan;
+use crate::Registers;
+use crate::operands::fail;
+use crate::operands::get;
+use crate::operands::put;
+use crate::plans::go_on;
+use crate::plans::refused;
+use base::Reached;
+use base::Refusal;
+use instruction::Register;
+use map::Map;
+use memory::Changes;
+use memory::Decision;
+use memory::Read;
+use memory::Stored;
+use memory::WordRead;
+ghost use mathlib.Core.Path.{_≡_};
+ghost use Rattle.base.specs.Addresses.{basePlusShift};
+ghost use Rattle.memory.specs.Bytes.{lent};
+ghost use Rattle.machine.specs.Registers as reg;
+ghost use Rattle.machine.specs.Acts as act;
+ghost use Rattle.machine.specs.Plan.{planned, finished};
+
+// A word that was read goes into r; where there was none, r stays.
+fn load_word(s: Registers, r: Register, x: WordRead) -> Plan
+    ensures { λ p. ⌜ planned p ≡ finished s (act.wordLoaded s r x) ⌝ }
+{
+    match x {
+        WordRead::Word(w) => go_on(s, put(s, r, w), Changes::Nothing),
+        WordRead::NoWord => go_on(s, s, Changes::Nothing),
+        WordRead::Refused(e) => refused(s, e),
+    }
+}
+
+fn load_byte(s: Registers, r: Register, x: Read) -> Plan
+    ensures { λ p. ⌜ planned p ≡ finished s (act.byteLoaded s r x) ⌝ }
+{
+    match x {
+        Read::Byte(v, _) => go_on(s, put(s, r, v as u16), Changes::Nothing),
+        Read::Unmapped => go_on(s, s, Changes::Nothing),
+    }
+}
+
+// A store that memory has decided. A failed one sets the flags, and keeps the byte that was taken.
+fn end_store(s: Registers, d: Decision) -> Plan
+    ensures { λ p. ⌜ planned p ≡ finished s (act.storing s d) ⌝ }
+{
+    let c = d.changes;
+    let r = d.outcome;
+    match r {
+        Stored::Done => go_on(s, s, c),
+        Stored::Failed => go_on(s, fail(s), c),
+        Stored::Refused(e) => refused(s, e),
+    }
+}
+
+fn word_at(m: Map, mem: &[u8], dev: &[u8], s: Registers, r: Register, store: bool, a: u16) -> Plan
+    ensures { λ p. ⌜ planned p ≡ finished s (act.wordAt m (lent (now (mem .entry)) (now (dev .entry))) s r store a) ⌝ }
+{
+    if store {
+        end_store(
+            s,
+            memory::decide_word(m, mem.len(), dev.len(), a, get(s, r)),
+        )
+    } else {
+        load_word(s, r, memory::read_word(m, mem, dev, a))
+    }
+}
+
+fn byte_at(m: Map, mem: &[u8], dev: &[u8], s: Registers, r: Register, store: bool, a: u16) -> Plan
+    ensures { λ p. ⌜ planned p ≡ finished s (act.byteAt m (lent (now (mem .entry)) (now (dev .entry))) s r store a) ⌝ }
+{
+    if store {
+        end_store(
+            s,
+            memory::decide_byte(m, mem.len(), dev.len(), a, base::low(get(s, r))),
+        )
+    } else {
+        load_byte(s, r, memory::read_byte(m, mem, dev, a))
+    }
+}
+
+pub fn ldr_str(
+    m: Map,
+    mem: &[u8],
+    dev: &[u8],
+    s: Registers,
+    r: Register,
+    addr: Register,
+    store: bool,
+    shift: u8,
+) -> Plan
+    ensures { λ p.
+        ⌜ planned p ≡ finished s (act.ldrStr m (lent (now (mem .entry)) (now (dev .entry))) s r store (basePlusShift (reg.get s addr) shift)) ⌝ }
+{
+    match base::base_plus_shift(get(s, addr), shift) {
+        Reached::At(a) => word_at(m, mem, dev, s, r, store, a),
+        Reached::Past => refused(s, Refusal::AddressOverflow),
+    }
+}
+
+pub fn ldb_stb(
+    m: Map,
+    mem: &[u8],
+    dev: &[u8],
+    s: Registers,
+    r: Register,
+    addr: Register,
+    store: bool,
+    shift: u8,
+) -> Plan
+    ensures { λ p.
+        ⌜ planned p ≡ finished s (act.ldbStb m (lent (now (mem .entry)) (now (dev .entry))) s r store (basePlusShift (reg.get s addr) shift)) ⌝ }
+{
+    match base::base_plus_shift(get(s, addr), shift) {
+        Reached::At(a) => byte_at(m, mem, dev, s, r, store, a),
+        Reached::Past => refused(s, Refusal::AddressOverflow),
+    }
+}
+
+pub fn cpy(m: Map, mem: &[u8], dev: &[u8], s: Registers, src: Register, dst: Register) -> Plan
+    ensures { λ p. ⌜ planned p ≡ finished s (act.cpy m (lent (now (mem .entry)) (now (dev .entry))) s src dst) ⌝ }
+{
+    match memory::read_byte(m, mem, dev, get(s, src)) {
+        Read::Byte(v, _) => end_store(
+            s,
+            memory::decide_byte(m, mem.len(), dev.len(), get(s, dst), v),
+        ),
+        Read::Unmapped => go_on(s, fail(s), Changes::Nothing),
+    }
+}
