@@ -5,16 +5,21 @@
 mod answers;
 mod fields;
 mod host;
+mod instructions;
 mod language;
+mod machine_part;
 mod memory_part;
 mod own;
 mod panics;
 mod pieces;
+mod undo;
 
 use answers::Answer;
 use fields::Fields;
 use host::Host;
+use std::fs::File;
 use std::io::{self, BufRead, BufWriter, Write};
+use std::os::fd::{AsFd, AsRawFd};
 
 /// A command takes its fields and answers; `None` where they are no fields of that command, and then it has changed
 /// nothing.
@@ -26,6 +31,7 @@ const COMMANDS: &[(&[u8], Command)] = &[
     (b"new", language::new),
     (b"poke", language::poke),
     (b"tables", language::tables),
+    (b"regs", machine_part::regs),
     (b"state", language::state),
     // memory.rs and mmio.rs
     (b"byte", memory_part::byte),
@@ -37,17 +43,40 @@ const COMMANDS: &[(&[u8], Command)] = &[
     (b"load", memory_part::load),
     (b"loadn", memory_part::loadn),
     (b"read", memory_part::read),
+    // machine.rs
+    (b"set", machine_part::set),
+    (b"step", machine_part::step),
+    // the decoder of machine.rs, encoder and printer of asm/mod.rs
+    (b"decode", instructions::decode),
+    (b"print", instructions::print),
+    (b"encode", instructions::encode),
 ];
 
 fn main() -> io::Result<()> {
     panics::listen();
     let mut host = Host::new(0, 0, 0, 0, 0);
-    let mut out = BufWriter::new(io::stdout().lock());
+    let mut out = BufWriter::new(answers_apart()?);
     for line in io::stdin().lock().split(b'\n') {
         let answer = answer(&mut host, &line?).unwrap_or_else(Answer::bad_line);
         writeln!(out, "{answer}")?;
     }
     out.flush()
+}
+
+/// In debug mode the Rust prints each step. So the answers go to a copy of standard output, and what is printed to
+/// standard output itself goes nowhere.
+fn answers_apart() -> io::Result<File> {
+    let answers = io::stdout().as_fd().try_clone_to_owned()?;
+    let nowhere = File::options().write(true).open("/dev/null")?;
+    // SAFETY: both are open, and nothing was written to standard output yet
+    if unsafe { dup2(nowhere.as_raw_fd(), io::stdout().as_raw_fd()) } < 0 {
+        return Err(io::Error::last_os_error());
+    }
+    Ok(File::from(answers))
+}
+
+unsafe extern "C" {
+    fn dup2(from: i32, to: i32) -> i32;
 }
 
 fn answer(host: &mut Host, line: &[u8]) -> Option<Answer> {

@@ -7,11 +7,16 @@ HERE = os.path.dirname(os.path.abspath(__file__))
 DRIVER = os.path.join(os.path.dirname(HERE), "target", "oracle", "driver")
 
 # The commands of the language so far. A later part adds its own.
-LANGUAGE = ["new", "poke", "tables"]
-COMMANDS = LANGUAGE + ["byte", "word", "put", "putw", "protect", "device", "load", "loadn", "read", "state"]
+LANGUAGE = ["new", "poke", "regs", "tables"]
+MEMORY = ["byte", "word", "put", "putw", "protect", "device", "load", "loadn", "read"]
+MACHINE = ["set", "step", "decode", "print", "encode"]
+COMMANDS = LANGUAGE + MEMORY + MACHINE + ["state"]
 
 # 01's numbers that these commands can answer.
-NUMBERS = [1, 3, 12, 13, 14, 15, 16, 17, 19]
+NUMBERS = [1, 2, 3, 4, 5, 6, 7, 8, 9, 12, 13, 14, 15, 16, 17, 18, 19]
+
+# Answers that are a word by themselves.
+ANSWERS = ["ok", "none", "failed", "continue", "debug", "stop", "?"]
 
 
 def fail(words):
@@ -60,7 +65,7 @@ def said(answer):
     answer = answer.removeprefix("~")
     if answer.startswith("no "):
         return " ".join(answer.split(" ")[:2])
-    return answer if answer in ("ok", "failed", "none", "?") else "value"
+    return answer if answer in ANSWERS else "value"
 
 
 def whose(line, answer):

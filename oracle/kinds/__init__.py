@@ -1,18 +1,53 @@
-"""The kinds of scripts. Each is a function from a random source to blocks of lines without end; a block starts with
-`new`, so that it stands by itself."""
+"""The kinds of scripts. Each is a function from a random source to blocks of lines; a block starts with `new`, so that it
+stands by itself."""
 import itertools
 import random
 
-from . import damaged, edges, walks
+from . import damaged, edges, encodings, numbers, step_readings, steps, walks, words
 
-KINDS = {"edges": edges.blocks, "random": walks.blocks, "damaged": damaged.blocks}
+# These have blocks without end.
+ENDLESS = {"edges": edges.blocks, "random": walks.blocks, "damaged": damaged.blocks, "steps": steps.blocks}
+
+# These go once through all that they are about.
+ONCE = {
+    "step-readings": step_readings.once,
+    "words": words.once,
+    "encodings": encodings.once,
+    "roots": numbers.roots,
+    "powers": numbers.powers,
+    "all-powers": numbers.all_powers,
+}
+
+KINDS = ENDLESS | ONCE
 
 
 def blocks(kind, seed):
-    """A kind's endless blocks. The random source is seeded by a text, so that kinds do not share their choices."""
+    """A kind's blocks. The random source is seeded by a text, so that kinds do not share their choices."""
     return KINDS[kind](random.Random(f"{kind} {seed}"))
 
 
 def script(kind, seed, count):
     """The first lines of them."""
     return list(itertools.islice(itertools.chain.from_iterable(blocks(kind, seed)), count))
+
+
+def scripts(kind, seed, length):
+    """All lines of a kind that ends, in scripts of whole blocks, each of about so many lines."""
+    lines = []
+    for block in blocks(kind, seed):
+        lines += block
+        if len(lines) >= length:
+            yield lines
+            lines = []
+    if lines:
+        yield lines
+
+
+def script_of_steps(seed, count):
+    """Whole blocks with so many steps, or a few more."""
+    lines, found = [], 0
+    for block in blocks("steps", seed):
+        lines += block
+        found += block.count("step")
+        if found >= count:
+            return lines

@@ -1,5 +1,6 @@
-"""Tables with one thing broken and then every command on them, and lines that are no commands."""
-from . import walks
+"""Tables with one thing broken and then every command on them, and lines that are no commands. What asks for no state, as
+decoding does, is among them too."""
+from . import encodings, steps, walks
 from .bad_lines import bad_line
 from .steer import TOP, Machine, inside, new, tables, word
 
@@ -25,6 +26,8 @@ def every_command(rng, machine):
     """Each command once or twice in some order, a few bad lines between, and the state."""
     commands = [command(rng, machine) for command in walks.COMMANDS if command is not walks.new_tables]
     commands += [walks.put_word(rng, machine), walks.read_byte(rng, machine), "read 0 0 0"]
+    commands += [steps.any_regs(rng, machine), steps.set_one(rng, machine), steps.set_one(rng, machine), "step", "step"]
+    commands += [f"decode {word(rng)}", f"print {word(rng)} {rng.randrange(20)}", encodings.random_one(rng)]
     bases = commands + [walks.valid_tables(rng, Machine(machine.memory, machine.device)), new(rng, 30, 9), "state"]
     commands += [bad_line(rng, rng.choice(bases)) for _ in range(5)]
     rng.shuffle(commands)

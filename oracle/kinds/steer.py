@@ -23,6 +23,11 @@ def tables(regions, devices, region_count=None, device_count=None):
     return f"tables {shown(regions, region_count)} {shown(devices, device_count)}"
 
 
+def program_of(words, at=0):
+    """A `poke` that puts these words into memory, low byte first, whatever is protected there."""
+    return f"poke memory {at} " + "".join(f"{w % 256:02x}{w // 256:02x}" for w in words)
+
+
 def used_entries(numbers):
     """The entries in use of a count and eight pairs."""
     return list(zip(numbers[1::2], numbers[2::2]))[: numbers[0]]

@@ -12,6 +12,10 @@ pub enum Said {
     Bad,
     Refused(u8),
     Number(u16),
+    // What an accepted step, or a halted machine, answers.
+    Continue,
+    Debug,
+    Stop,
 }
 
 // What a command that may change the state comes to.
@@ -33,10 +37,6 @@ pub fn verdict(a: Answer) -> Said {
     }
 }
 
-pub fn is_bad(said: Said) -> bool {
-    if let Said::Bad = said { true } else { false }
-}
-
 pub fn changed(state: State, said: Said) -> Outcome {
     Outcome { state, said }
 }
@@ -54,6 +54,9 @@ pub fn say(out: &mut [u8], at: usize, said: Said) -> usize {
         Said::Bad => output::put(out, at, b'?'),
         Said::Refused(n) => refused(out, at, n),
         Said::Number(n) => output::decimal(out, at, n as u64),
+        Said::Continue => output::text(out, at, b"continue"),
+        Said::Debug => output::text(out, at, b"debug"),
+        Said::Stop => output::text(out, at, b"stop"),
     }
 }
 

@@ -1,48 +1,59 @@
 // Bytes and words: poked into a buffer by the host, or read and stored by the memory part alone.
 use crate::answers::Said;
-use crate::fields::named;
-use crate::fields::number;
-use crate::fields::word;
+use crate::parse::named;
+use crate::parse::number;
+use crate::parse::word;
 use crate::state::State;
+use crate::state::map_of;
 use crate::texts::hex_text;
 use crate::texts::unhex;
 use memory::Read;
 use memory::Stored;
 use memory::WordRead;
 
-// Pokes into the one buffer that the line has named.
-fn poke_in(line: &[u8], at: usize, buf: &mut [u8]) -> Said {
+// Pokes into the one buffer that the line has named, of which the script has asked for so many bytes.
+fn poke_in(line: &[u8], at: usize, buf: &mut [u8], size: usize) -> Said {
     let place = number(line, at, 94300);
     let t = hex_text(line, place.next);
     if t.next != line.len() {
         return Said::Bad;
     }
     let from = place.value as usize;
-    if buf.len() < from {
+    if buf.len() < size {
+        return Said::Bad;
+    }
+    if size < from {
         return Said::Bad;
     }
     let a = t.start;
     let e = t.end;
     let n = (e - a) / 2;
-    if buf.len() - from < n {
+    if size - from < n {
         return Said::Bad;
     }
     unhex(&line[a..e], &mut buf[from..from + n]);
     Said::Done
 }
 
-pub fn poke(line: &[u8], at: usize, mem: &mut [u8], dev: &mut [u8], journal: &mut [u8]) -> Said {
+pub fn poke(
+    s: State,
+    line: &[u8],
+    at: usize,
+    mem: &mut [u8],
+    dev: &mut [u8],
+    journal: &mut [u8],
+) -> Said {
     let m = named(line, at, b"memory");
     if m <= line.len() {
-        return poke_in(line, m, mem);
+        return poke_in(line, m, mem, s.mem);
     }
     let d = named(line, at, b"device");
     if d <= line.len() {
-        return poke_in(line, d, dev);
+        return poke_in(line, d, dev, s.dev);
     }
     // Another name ends nowhere, and then the fields after it are bad.
     let j = named(line, at, b"journal");
-    poke_in(line, j, journal)
+    poke_in(line, j, journal, s.journal)
 }
 
 pub fn byte_read(s: State, line: &[u8], at: usize, mem: &[u8], dev: &[u8]) -> Said {
@@ -50,7 +61,7 @@ pub fn byte_read(s: State, line: &[u8], at: usize, mem: &[u8], dev: &[u8]) -> Sa
     if a.next != line.len() {
         return Said::Bad;
     }
-    let m = s.map;
+    let m = map_of(s);
     match memory::read_byte(m, mem, dev, a.value) {
         Read::Byte(v, _) => Said::Number(v as u16),
         Read::Unmapped => Said::Missing,
@@ -62,7 +73,7 @@ pub fn word_read(s: State, line: &[u8], at: usize, mem: &[u8], dev: &[u8]) -> Sa
     if a.next != line.len() {
         return Said::Bad;
     }
-    let m = s.map;
+    let m = map_of(s);
     match memory::read_word(m, mem, dev, a.value) {
         WordRead::Word(w) => Said::Number(w),
         WordRead::NoWord => Said::Missing,
@@ -76,7 +87,7 @@ pub fn byte_put(s: State, line: &[u8], at: usize, mem: &mut [u8], dev: &mut [u8]
     if v.next != line.len() {
         return Said::Bad;
     }
-    let m = s.map;
+    let m = map_of(s);
     if memory::store_byte(m, mem, dev, a.value, v.value as u8) {
         Said::Done
     } else {
@@ -90,7 +101,7 @@ pub fn word_put(s: State, line: &[u8], at: usize, mem: &mut [u8], dev: &mut [u8]
     if w.next != line.len() {
         return Said::Bad;
     }
-    let m = s.map;
+    let m = map_of(s);
     match memory::store_word(m, mem, dev, a.value, w.value) {
         Stored::Done => Said::Done,
         Stored::Failed => Said::Failed,

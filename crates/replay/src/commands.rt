@@ -1,13 +1,9 @@
-// The commands by name, in three tables: those that answer in a word and leave the state, those that may change it,
-// and those that print. A command is one function that reads its fields, from `at` on, and one entry here.
-//
-// A table answers Bad to a name that it does not have and to a line that is not right, both alike: then the next table
-// is asked, which does not have the name either, and the last one prints `?`.
+// What each command does. A command is one function that reads its fields, from `at` on, and one entry here; which
+// entry stands where goes by the buffers that it needs (names.rt), so that each function is lent no more than that.
 use crate::answers::Outcome;
 use crate::answers::Said;
 use crate::answers::Turn;
 use crate::answers::changed;
-use crate::answers::is_bad;
 use crate::answers::kept;
 use crate::answers::say;
 use crate::answers::spoken;
@@ -18,71 +14,80 @@ use crate::bytes::word_put;
 use crate::bytes::word_read;
 use crate::dumps::print_state;
 use crate::dumps::read;
-use crate::fields::name_end;
-use crate::fields::same;
+use crate::instructions::decode;
+use crate::instructions::encode;
+use crate::instructions::print;
 use crate::loads::load;
 use crate::loads::load_same;
+use crate::machines::regs;
+use crate::machines::set;
+use crate::machines::step;
+use crate::names;
+use crate::parse::name_end;
 use crate::setup::make;
 use crate::state::State;
 use crate::tables::protect;
 use crate::tables::register;
 use crate::tables::tables;
 
-fn on_bytes(
-    name: &[u8],
-    s: State,
-    line: &[u8],
-    at: usize,
-    mem: &mut [u8],
-    dev: &mut [u8],
-    journal: &mut [u8],
-) -> Said {
-    if same(name, b"poke") {
-        return poke(line, at, mem, dev, journal);
-    }
-    if same(name, b"byte") {
-        return byte_read(s, line, at, mem, dev);
-    }
-    if same(name, b"word") {
-        return word_read(s, line, at, mem, dev);
-    }
-    if same(name, b"put") {
-        return byte_put(s, line, at, mem, dev);
-    }
-    if same(name, b"putw") {
-        return word_put(s, line, at, mem, dev);
-    }
-    Said::Bad
-}
-
-fn on_state(
-    name: &[u8],
-    s: State,
-    line: &[u8],
-    at: usize,
-    mem: &mut [u8],
-    dev: &mut [u8],
-) -> Outcome {
-    if same(name, b"tables") {
+// Commands that store nothing.
+fn on_state(c: u16, s: State, line: &[u8], at: usize, dev: &[u8]) -> Outcome {
+    if c == names::TABLES {
         return tables(s, line, at);
     }
-    if same(name, b"protect") {
+    if c == names::REGS {
+        return regs(s, line, at);
+    }
+    if c == names::PROTECT {
         return protect(s, line, at, dev);
     }
-    if same(name, b"device") {
+    if c == names::DEVICE {
         return register(s, line, at, dev);
     }
-    if same(name, b"load") {
-        return load(s, line, at, mem, dev);
-    }
-    if same(name, b"loadn") {
-        return load_same(s, line, at, mem, dev);
+    if c == names::SET {
+        return set(s, line, at, dev);
     }
     changed(s, Said::Bad)
 }
 
+// Commands that store.
+fn on_bytes(c: u16, s: State, line: &[u8], at: usize, mem: &mut [u8], dev: &mut [u8]) -> Outcome {
+    if c == names::STEP {
+        return step(s, line, at, mem, dev);
+    }
+    if c == names::PUT {
+        return changed(s, byte_put(s, line, at, mem, dev));
+    }
+    if c == names::PUTW {
+        return changed(s, word_put(s, line, at, mem, dev));
+    }
+    if c == names::LOAD {
+        return load(s, line, at, mem, dev);
+    }
+    load_same(s, line, at, mem, dev)
+}
+
+fn acted(c: u16, s: State, line: &[u8], at: usize, mem: &mut [u8], dev: &mut [u8]) -> Outcome {
+    if c < names::FIRST_STORING {
+        return on_state(c, s, line, at, dev);
+    }
+    on_bytes(c, s, line, at, mem, dev)
+}
+
+// Commands that look at no state.
+fn printed_word(c: u16, line: &[u8], at: usize, out: &mut [u8], p: usize) -> usize {
+    if c == names::DECODE {
+        return decode(line, at, out, p);
+    }
+    if c == names::PRINT {
+        return print(line, at, out, p);
+    }
+    encode(line, at, out, p)
+}
+
+// Commands that print and leave the state.
 fn printed(
-    name: &[u8],
+    c: u16,
     s: State,
     line: &[u8],
     at: usize,
@@ -92,63 +97,47 @@ fn printed(
     out: &mut [u8],
     p: usize,
 ) -> usize {
-    if same(name, b"read") {
-        return read(s, line, at, mem, dev, out, p);
-    }
-    if same(name, b"state") {
+    if c == names::STATE {
         return print_state(s, line, at, mem, dev, journal, out, p);
     }
-    say(out, p, Said::Bad)
-}
-
-// Asks the second table, then the third.
-fn further(
-    name: &[u8],
-    s: State,
-    line: &[u8],
-    at: usize,
-    mem: &mut [u8],
-    dev: &mut [u8],
-    journal: &mut [u8],
-    out: &mut [u8],
-    p: usize,
-) -> Turn {
-    let o = on_state(name, s, line, at, mem, dev);
-    let said = o.said;
-    if is_bad(said) {
-        return kept(s, printed(name, s, line, at, mem, dev, journal, out, p));
+    if c == names::BYTE {
+        return say(out, p, byte_read(s, line, at, mem, dev));
     }
-    spoken(o, out, p)
+    if c == names::WORD {
+        return say(out, p, word_read(s, line, at, mem, dev));
+    }
+    if c == names::READ {
+        return read(s, line, at, mem, dev, out, p);
+    }
+    printed_word(c, line, at, out, p)
 }
 
-// Asks the first table, then the others.
 fn perform(
-    name: &[u8],
+    c: u16,
     s: State,
     line: &[u8],
     at: usize,
     mem: &mut [u8],
     dev: &mut [u8],
-    journal: &mut [u8],
+    journal: &[u8],
     out: &mut [u8],
     p: usize,
 ) -> Turn {
-    let said = on_bytes(name, s, line, at, mem, dev, journal);
-    if is_bad(said) {
-        return further(name, s, line, at, mem, dev, journal, out, p);
+    if c < names::FIRST_PRINTING {
+        return spoken(acted(c, s, line, at, mem, dev), out, p);
     }
-    kept(s, say(out, p, said))
+    kept(s, printed(c, s, line, at, mem, dev, journal, out, p))
 }
 
 // Lends each buffer at the length that the last `new` asked for, which was never more than there is.
 fn lent(
-    name: &[u8],
+    c: u16,
     s: State,
     line: &[u8],
     at: usize,
     mem: &mut [u8],
     dev: &mut [u8],
-    journal: &mut [u8],
+    journal: &[u8],
     out: &mut [u8],
     p: usize,
 ) -> Turn {
@@ -165,19 +154,19 @@ fn lent(
         return kept(s, p);
     }
     perform(
-        name,
+        c,
         s,
         line,
         at,
         &mut mem[0..m],
         &mut dev[0..d],
-        &mut journal[0..j],
+        &journal[0..j],
         out,
         p,
     )
 }
 
-// The answer to a line, all but its end. `new` stands in no table: it alone is handed the whole buffers.
+// The answer to a line, all but its end. `new` and `poke` are handed the whole buffers.
 pub fn answer(
     s: State,
     line: &[u8],
@@ -188,9 +177,12 @@ pub fn answer(
     p: usize,
 ) -> Turn {
     let at = name_end(line);
-    let name = &line[0..at];
-    if same(name, b"new") {
+    let c = names::command(&line[0..at]);
+    if c == names::NEW {
         return spoken(make(s, line, at, mem, dev, journal), out, p);
     }
-    lent(name, s, line, at, mem, dev, journal, out, p)
+    if c == names::POKE {
+        return kept(s, say(out, p, poke(s, line, at, mem, dev, journal)));
+    }
+    lent(c, s, line, at, mem, dev, journal, out, p)
 }

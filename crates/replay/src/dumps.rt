@@ -3,10 +3,12 @@ use crate::adler::adler;
 use crate::answers::Said;
 use crate::answers::refused;
 use crate::answers::say;
-use crate::fields::number;
-use crate::fields::word;
 use crate::output;
+use crate::parse::number;
+use crate::parse::word;
 use crate::state::State;
+use crate::state::map_of;
+use machine::Machine;
 use map::Map;
 use memory::ReadOut;
 
@@ -48,7 +50,7 @@ pub fn read(
     if room.next != line.len() {
         return say(out, p, Said::Bad);
     }
-    let m = s.map;
+    let m = map_of(s);
     let n = room.value as usize;
     let mut buf = [0xEEu8; 65600];
     dump(
@@ -108,6 +110,11 @@ fn devices(out: &mut [u8], at: usize, m: Map) -> usize {
     p
 }
 
+fn debug_of(m: Machine) -> u16 {
+    let mode = m.mode;
+    if mode.debug { 1 } else { 0 }
+}
+
 // A number, and the space after it.
 fn spaced(out: &mut [u8], at: usize, n: u16) -> usize {
     let p = output::decimal(out, at, n as u64);
@@ -121,6 +128,17 @@ fn tables(out: &mut [u8], at: usize, m: Map) -> usize {
     let p = spaced(out, p, m.devices);
     let p = devices(out, p, m);
     output::put(out, p, b' ')
+}
+
+// Registers, debug mode, tables.
+fn machine_text(out: &mut [u8], at: usize, m: Machine) -> usize {
+    let r = m.registers;
+    let v = r.value;
+    let t = m.map;
+    let p = registers(out, at, v);
+    let p = output::put(out, p, b' ');
+    let p = spaced(out, p, debug_of(m));
+    tables(out, p, t)
 }
 
 fn sums(out: &mut [u8], at: usize, mem: &[u8], dev: &[u8], journal: &[u8]) -> usize {
@@ -144,12 +162,8 @@ pub fn print_state(
     if at != line.len() {
         return say(out, p, Said::Bad);
     }
-    let regs = s.regs;
-    let m = s.map;
-    let p = registers(out, p, regs);
-    let p = output::put(out, p, b' ');
-    let p = spaced(out, p, s.debug);
-    let p = tables(out, p, m);
+    let m = s.machine;
+    let p = machine_text(out, p, m);
     let p = spaced(out, p, s.next);
     let p = spaced(out, p, s.held);
     sums(out, p, mem, dev, journal)

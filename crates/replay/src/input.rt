@@ -13,12 +13,24 @@ ghost use mathlib.Core.Path.{_≡_};
 ghost use Prim.Native.Nat.{_≤_, _<_};
 ghost use lib.ListN.{length};
 
-// The script so far: its machine, how much of a line has come, and where the next byte of output goes.
-pub struct Session {
-    pub state: State,
-    pub have: usize,
-    pub at: usize,
-    pub is_over: bool,
+// How far input and output are.
+struct Flow {
+    // How much was read into the chunk, and how much of that was taken.
+    count: usize,
+    from: usize,
+    // How much of a line has come.
+    have: usize,
+    // Where the next byte of output goes.
+    at: usize,
+    // The line has come whole.
+    is_whole: bool,
+    is_over: bool,
+}
+
+// The script so far.
+struct Session {
+    state: State,
+    flow: Flow,
 }
 
 // What was taken of a chunk: how much of a line there is now, where to go on, and whether the line is whole.
@@ -28,9 +40,7 @@ struct Part {
     is_whole: bool,
 }
 
-fn taken(have: usize, next: usize, is_whole: bool) -> Part
-    ensures { λ r. ⌜ r .next ≡ next ⌝ }
-{
+fn taken(have: usize, next: usize, is_whole: bool) -> Part {
     Part {
         have,
         next,
@@ -48,10 +58,7 @@ fn keep(line: &mut [u8], have: usize, b: u8) -> usize {
 }
 
 // Takes a chunk's bytes from `from` on into the line, up to the line's end or the chunk's.
-fn take(chunk: &[u8], from: usize, line: &mut [u8], have: usize) -> Part
-    requires { ⌜ from < length (now chunk) ⌝ }
-    ensures { λ r. ⌜ (from < r .next) × (r .next ≤ length (now (chunk .entry))) ⌝ }
-{
+fn take(chunk: &[u8], from: usize, line: &mut [u8], have: usize) -> Part {
     let mut i = from;
     let mut n = have;
     while i < chunk.len() {
@@ -65,9 +72,65 @@ fn take(chunk: &[u8], from: usize, line: &mut [u8], have: usize) -> Part
     taken(n, i, false)
 }
 
-// The turn of the line that has come; one that did not fit is bad.
+// Takes what the chunk still has of a line.
+fn took(f: Flow, chunk: &[u8], line: &mut [u8]) -> Flow {
+    let n = f.count;
+    let mut t = f;
+    if n <= chunk.len() {
+        let part = take(&chunk[0..n], f.from, line, f.have);
+        t.from = part.next;
+        t.have = part.have;
+        t.is_whole = part.is_whole;
+    }
+    t
+}
+
+// Reads once more. What waits is written out before, so that whoever sends line by line has each answer before the
+// next read. Where the input has ended, what is left is a line, though no line end follows it.
+fn refill(f: Flow, chunk: &mut [u8], out: &[u8]) -> Flow {
+    flush(out, f.at);
+    let got = libc::read(STDIN_FILENO, chunk);
+    let n = io::count(got, chunk);
+    Flow {
+        count: n,
+        from: 0,
+        have: f.have,
+        at: 0,
+        is_whole: n == 0 && 0 < f.have,
+        is_over: n == 0,
+    }
+}
+
+fn gather(f: Flow, chunk: &mut [u8], line: &mut [u8], out: &[u8]) -> Flow {
+    if f.from < f.count {
+        return took(f, chunk, line);
+    }
+    refill(f, chunk, out)
+}
+
+// The flow after its turn: where a line was answered, the next one begins; after the last, what waits is written out.
+fn passed(f: Flow, at: usize, out: &[u8]) -> Flow {
+    let mut t = f;
+    t.at = at;
+    if f.is_whole {
+        t.have = 0;
+    }
+    if f.is_over {
+        flush(out, at);
+    }
+    t
+}
+
+fn ended(t: Turn, out: &mut [u8]) -> Turn {
+    let state = t.state;
+    let at = put(out, t.at, b'\n');
+    kept(state, at)
+}
+
+// Answers the line, if it has come whole. One that did not fit is no command.
 fn turn(
     s: State,
+    is_whole: bool,
     have: usize,
     at: usize,
     mem: &mut [u8],
@@ -76,142 +139,76 @@ fn turn(
     line: &[u8],
     out: &mut [u8],
 ) -> Turn {
+    if !is_whole {
+        return kept(s, at);
+    }
     if line.len() < have {
-        return kept(s, say(out, at, Said::Bad));
+        return ended(kept(s, say(out, at, Said::Bad)), out);
     }
-    answer(s, &line[0..have], mem, dev, journal, out, at)
+    ended(answer(s, &line[0..have], mem, dev, journal, out, at), out)
 }
 
-// Answers the line that has come.
-fn finish(
-    s: Session,
-    mem: &mut [u8],
-    dev: &mut [u8],
-    journal: &mut [u8],
-    line: &[u8],
-    out: &mut [u8],
-) -> Session {
-    let state = s.state;
-    let t = turn(state, s.have, s.at, mem, dev, journal, line, out);
-    let after = t.state;
-    let at = put(out, t.at, b'\n');
-    Session {
-        state: after,
-        have: 0,
-        at,
-        is_over: s.is_over,
-    }
-}
-
-// The session once a part of a line was taken.
-fn follow(
-    s: Session,
-    have: usize,
-    is_whole: bool,
-    mem: &mut [u8],
-    dev: &mut [u8],
-    journal: &mut [u8],
-    line: &[u8],
-    out: &mut [u8],
-) -> Session {
-    let mut t = s;
-    t.have = have;
-    if is_whole {
-        return finish(t, mem, dev, journal, line, out);
-    }
-    t
-}
-
-// Answers each line that ends in the chunk, and keeps the start of the next.
-fn feed(
-    s: Session,
-    chunk: &[u8],
-    mem: &mut [u8],
-    dev: &mut [u8],
-    journal: &mut [u8],
-    line: &mut [u8],
-    out: &mut [u8],
-) -> Session {
-    let mut t = s;
-    let mut from: usize = 0;
-    while from < chunk.len() {
-        let part = take(chunk, from, line, t.have);
-        t = follow(t, part.have, part.is_whole, mem, dev, journal, line, out);
-        from = part.next;
-    }
-    t
-}
-
-// The input has ended: what is left is a line, though no line end follows it.
-fn last(
-    s: Session,
-    mem: &mut [u8],
-    dev: &mut [u8],
-    journal: &mut [u8],
-    line: &[u8],
-    out: &mut [u8],
-) -> Session {
-    let mut t = s;
-    t.is_over = true;
-    if t.have == 0 {
-        return t;
-    }
-    finish(t, mem, dev, journal, line, out)
-}
-
-// Reads once and answers what came.
-fn read_some(
-    s: Session,
-    mem: &mut [u8],
-    dev: &mut [u8],
-    journal: &mut [u8],
-    line: &mut [u8],
-    out: &mut [u8],
-) -> Session {
-    let mut chunk = io::large_buffer();
-    let got = libc::read(STDIN_FILENO, &mut chunk);
-    if got <= 0 {
-        return last(s, mem, dev, journal, line, out);
-    }
-    let n = io::count(got, &chunk);
-    feed(s, &chunk[0..n], mem, dev, journal, line, out)
-}
-
-// Writes out what waits, so that whoever sends line by line has each answer before the next read.
-fn sent(s: Session, out: &[u8]) -> Session {
-    flush(out, s.at);
-    let mut t = s;
-    t.at = 0;
-    t
-}
-
-// One read with all that follows from it.
+// Takes or reads what comes next, and answers it where that makes a line.
 fn round(
     s: Session,
     mem: &mut [u8],
     dev: &mut [u8],
     journal: &mut [u8],
+    chunk: &mut [u8],
     line: &mut [u8],
     out: &mut [u8],
 ) -> Session {
-    let t = read_some(s, mem, dev, journal, line, out);
-    sent(t, out)
+    let f = gather(s.flow, chunk, line, out);
+    let state = s.state;
+    let t = turn(
+        state,
+        f.is_whole,
+        f.have,
+        f.at,
+        mem,
+        dev,
+        journal,
+        line,
+        out,
+    );
+    let after = t.state;
+    let flow = passed(f, t.at, out);
+    Session { state: after, flow }
+}
+
+fn start() -> Session {
+    let state = zero(0, 0, 0, false);
+    let flow = Flow {
+        count: 0,
+        from: 0,
+        have: 0,
+        at: 0,
+        is_whole: false,
+        is_over: false,
+    };
+    Session { state, flow }
+}
+
+fn is_over(s: Session) -> bool {
+    let f = s.flow;
+    f.is_over
 }
 
 // A proved loop has to end, and nothing says that the input does. So the loop counts its turns down, from a number
 // that no run uses up; it stops where the input does.
-pub fn run(mem: &mut [u8], dev: &mut [u8], journal: &mut [u8], line: &mut [u8], out: &mut [u8]) {
-    let state = zero(0, 0, 0, 0);
-    let mut s = Session {
-        state,
-        have: 0,
-        at: 0,
-        is_over: false,
-    };
+pub fn run(
+    mem: &mut [u8],
+    dev: &mut [u8],
+    journal: &mut [u8],
+    chunk: &mut [u8],
+    line: &mut [u8],
+    out: &mut [u8],
+) {
+    let mut s = start();
     let mut turns = u64::MAX;
     while turns > 0 {
-        s = round(s, mem, dev, journal, line, out);
-        if s.is_over {
+        s = round(s, mem, dev, journal, chunk, line, out);
+        if is_over(s) {
             return;
         }
         turns -= 1;

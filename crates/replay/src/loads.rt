@@ -3,10 +3,11 @@ use crate::answers::Outcome;
 use crate::answers::Said;
 use crate::answers::changed;
 use crate::answers::verdict;
-use crate::fields::number;
-use crate::fields::word;
-use crate::fields::words;
+use crate::parse::number;
+use crate::parse::word;
+use crate::parse::words;
 use crate::state::State;
+use crate::state::map_of;
 use crate::state::with_map;
 ghost use Prim.Native.Nat.{_≤_};
 ghost use lib.ListN.{length};
@@ -15,7 +16,7 @@ ghost use lib.ListN.{length};
 fn program(s: State, mem: &mut [u8], dev: &mut [u8], v: &[u16], n: usize) -> Outcome
     requires { ⌜ n ≤ length (now v) ⌝ }
 {
-    let m = s.map;
+    let m = map_of(s);
     let q = memory::write_program(m, mem, dev, &v[0..n]);
     let after = q.map;
     let answer = q.answer;

@@ -6,10 +6,14 @@ mod answers;
 mod bytes;
 mod commands;
 mod dumps;
-mod fields;
 mod input;
+mod instructions;
 mod loads;
+mod machines;
+mod names;
 mod output;
+mod parse;
+mod rows;
 mod setup;
 mod state;
 mod tables;
@@ -23,5 +27,13 @@ fn main() {
     let mut journal = [0u8; 94300];
     let mut line = [0u8; 524288];
     let mut out = io::large_buffer();
-    input::run(&mut mem, &mut dev, &mut journal, &mut line, &mut out);
+    let mut chunk = io::large_buffer();
+    input::run(
+        &mut mem,
+        &mut dev,
+        &mut journal,
+        &mut chunk,
+        &mut line,
+        &mut out,
+    );
 }

@@ -51,6 +51,19 @@ fn hex_digit(n: u8) -> u8 {
     if d < 10 { b'0' + d } else { 87 + d }
 }
 
+fn upper_digit(n: u16) -> u8 {
+    let d = (n % 16) as u8;
+    if d < 10 { b'0' + d } else { 55 + d }
+}
+
+// Four upper-case hex digits.
+pub fn hex_word(out: &mut [u8], at: usize, w: u16) -> usize {
+    let p = put(out, at, upper_digit(w / 4096));
+    let p = put(out, p, upper_digit(w / 256));
+    let p = put(out, p, upper_digit(w / 16));
+    put(out, p, upper_digit(w))
+}
+
 // All bytes in pairs of hex digits; `-` where there are none.
 pub fn hex_bytes(out: &mut [u8], at: usize, bytes: &[u8]) -> usize {
     if bytes.len() == 0 {

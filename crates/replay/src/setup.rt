@@ -2,7 +2,7 @@
 use crate::answers::Outcome;
 use crate::answers::Said;
 use crate::answers::changed;
-use crate::fields::number;
+use crate::parse::number;
 use crate::state::State;
 use crate::state::zero;
 
@@ -34,7 +34,7 @@ fn renewed(
     d: usize,
     journal: &mut [u8],
     j: usize,
-    debug: u16,
+    debug: bool,
     seed: u32,
 ) -> State {
     renew(mem, m, seed);
@@ -63,7 +63,7 @@ pub fn make(
     let d = d.value as usize;
     let j = j.value as usize;
     changed(
-        renewed(mem, m, dev, d, journal, j, debug.value as u16, seed.value),
+        renewed(mem, m, dev, d, journal, j, debug.value == 1, seed.value),
         Said::Done,
     )
 }

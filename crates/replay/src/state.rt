@@ -1,10 +1,10 @@
 // What the script's machine is, beside the three lent buffers.
+use machine::Machine;
+use machine::Registers;
 use map::Map;
 
 pub struct State {
-    pub regs: [u16; 8],
-    pub debug: u16,
-    pub map: Map,
+    pub machine: Machine,
     pub next: u16,
     pub held: u16,
     // How much of each buffer the last `new` asked for. The rest of a buffer is never lent to a command.
@@ -14,12 +14,10 @@ pub struct State {
 }
 
 // A zero state over buffers of these lengths.
-pub fn zero(mem: usize, dev: usize, journal: usize, debug: u16) -> State {
-    let m = map::empty();
+pub fn zero(mem: usize, dev: usize, journal: usize, debug: bool) -> State {
+    let m = machine::new(debug);
     State {
-        regs: [0; 8],
-        debug,
-        map: m,
+        machine: m,
         next: 0,
         held: 0,
         mem,
@@ -28,9 +26,27 @@ pub fn zero(mem: usize, dev: usize, journal: usize, debug: u16) -> State {
     }
 }
 
-// The same state with other tables.
-pub fn with_map(s: State, m: Map) -> State {
+pub fn map_of(s: State) -> Map {
+    let m = s.machine;
+    m.map
+}
+
+pub fn with_machine(s: State, m: Machine) -> State {
     let mut t = s;
-    t.map = m;
+    t.machine = m;
     t
+}
+
+// The same state with other tables.
+pub fn with_map(s: State, tables: Map) -> State {
+    let mut m = s.machine;
+    m.map = tables;
+    with_machine(s, m)
+}
+
+// The same state with other registers.
+pub fn with_registers(s: State, r: Registers) -> State {
+    let mut m = s.machine;
+    m.registers = r;
+    with_machine(s, m)
 }

@@ -3,9 +3,10 @@ use crate::answers::Outcome;
 use crate::answers::Said;
 use crate::answers::changed;
 use crate::answers::verdict;
-use crate::fields::word;
-use crate::fields::words;
+use crate::parse::word;
+use crate::parse::words;
 use crate::state::State;
+use crate::state::map_of;
 use crate::state::with_map;
 use map::Device;
 use map::Map;
@@ -32,7 +33,7 @@ fn device(v: [u16; 34], i: usize) -> Device
 }
 
 // The tables as a line has them: a count and eight pairs, twice.
-fn map_of(v: [u16; 34]) -> Map {
+fn tables_of(v: [u16; 34]) -> Map {
     let regions = [
         region(v, 1),
         region(v, 3),
@@ -70,7 +71,7 @@ pub fn tables(s: State, line: &[u8], at: usize) -> Outcome {
     if w.next != line.len() {
         return changed(s, Said::Bad);
     }
-    let m = map_of(v);
+    let m = tables_of(v);
     changed(with_map(s, m), Said::Done)
 }
 
@@ -86,7 +87,7 @@ pub fn protect(s: State, line: &[u8], at: usize, dev: &[u8]) -> Outcome {
     if len.next != line.len() {
         return changed(s, Said::Bad);
     }
-    let m = s.map;
+    let m = map_of(s);
     mapped(s, map::protect(m, dev, start.value, len.value))
 }
 
@@ -96,6 +97,6 @@ pub fn register(s: State, line: &[u8], at: usize, dev: &[u8]) -> Outcome {
     if size.next != line.len() {
         return changed(s, Said::Bad);
     }
-    let m = s.map;
+    let m = map_of(s);
     mapped(s, map::register_device(m, dev, start.value, size.value))
 }

@@ -1,7 +1,7 @@
 // Texts: pairs of lower-case hex digits, or `-` for the empty one.
-use crate::fields::NOWHERE;
-use crate::fields::byte_at;
-use crate::fields::opened;
+use crate::parse::NOWHERE;
+use crate::parse::byte_at;
+use crate::parse::opened;
 ghost use mathlib.Core.Path.{_≡_};
 ghost use Prim.Native.Nat.{_≤_, _<_};
 ghost use lib.ListN.{length};

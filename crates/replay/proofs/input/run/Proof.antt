@@ -7,19 +7,22 @@ use Rattle.replay.proofs.input.run.Statement.{statement}
 use Rattle.replay.proofs.input.run.Tie as tie
 
 abbrev Inv-loop : tie.InvT-loop
-Inv-loop mem₀ dev₀ journal₀ line₀ out₀ s₀ turns₀ mem dev journal line out s turns = (length mem ≡ length mem₀) × (length dev ≡ length dev₀) × (length journal ≡ length journal₀) × (length line ≡ length line₀) × (length out ≡ length out₀)
+Inv-loop mem₀ dev₀ journal₀ chunk₀ line₀ out₀ s₀ turns₀ mem dev journal chunk line out s turns = (length mem ≡ length mem₀) × (length dev ≡ length dev₀) × (length journal ≡ length journal₀) × (length chunk ≡ length chunk₀) × (length line ≡ length line₀) × (length out ≡ length out₀)
 
 abbrev μ-loop : tie.MeasureT-loop
-μ-loop mem₀ dev₀ journal₀ line₀ out₀ s₀ turns₀ mem dev journal line out s turns = turns
+μ-loop mem₀ dev₀ journal₀ chunk₀ line₀ out₀ s₀ turns₀ mem dev journal chunk line out s turns = turns
 
-zero-requires : tie.Need-zero-requires Inv-loop μ-loop
-zero-requires c κs = search needs
+start-requires : tie.Need-start-requires Inv-loop μ-loop
+start-requires c κs = search needs
 
 loop-holds : tie.Need-loop-holds Inv-loop μ-loop
 loop-holds c = search needs
 
 round-requires : tie.Need-round-requires Inv-loop μ-loop
 round-requires c κs = search needs
+
+is-over-requires : tie.Need-is-over-requires Inv-loop μ-loop
+is-over-requires c κs = search needs
 
 same-length : tie.Need-same-length Inv-loop μ-loop
 same-length c = search needs
@@ -36,6 +39,9 @@ same-length-4 c = search needs
 same-length-5 : tie.Need-same-length-5 Inv-loop μ-loop
 same-length-5 c = search needs
 
+same-length-6 : tie.Need-same-length-6 Inv-loop μ-loop
+same-length-6 c = search needs
+
 returns : tie.Need-returns Inv-loop μ-loop
 returns c = search needs
 
@@ -47,9 +53,6 @@ loop-less c = search needs
 
 loop-again : tie.Need-loop-again Inv-loop μ-loop
 loop-again c = search needs
-
-same-length-6 : tie.Need-same-length-6 Inv-loop μ-loop
-same-length-6 c = search needs
 
 same-length-7 : tie.Need-same-length-7 Inv-loop μ-loop
 same-length-7 c = search needs
@@ -63,6 +66,12 @@ same-length-9 c = search needs
 same-length-10 : tie.Need-same-length-10 Inv-loop μ-loop
 same-length-10 c = search needs
 
+same-length-11 : tie.Need-same-length-11 Inv-loop μ-loop
+same-length-11 c = search needs
+
+same-length-12 : tie.Need-same-length-12 Inv-loop μ-loop
+same-length-12 c = search needs
+
 returns-2 : tie.Need-returns-2 Inv-loop μ-loop
 returns-2 c = search needs
 
@@ -72,21 +81,24 @@ run-spec =
     (tie.spec
     Inv-loop
     μ-loop
-    zero-requires
+    start-requires
     loop-holds
     round-requires
+    is-over-requires
     same-length
     same-length-2
     same-length-3
     same-length-4
     same-length-5
+    same-length-6
     returns
     sub-turns
     loop-less
     loop-again
-    same-length-6
     same-length-7
     same-length-8
     same-length-9
     same-length-10
+    same-length-11
+    same-length-12
     returns-2)

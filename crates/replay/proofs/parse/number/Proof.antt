@@ -1,10 +1,10 @@
--- `replay::fields::number` meets its contract. The value has not outgrown 33 bits.
+-- `replay::parse::number` meets its contract. The value has not outgrown 33 bits.
 -- Assumes nothing.
 use Prim.Native.Nat.{_≤_, _-_}
 use lib.ListN.{length}
 use borrow.Author.Needs.{needs}
-use Rattle.replay.proofs.fields.number.Statement.{statement}
-use Rattle.replay.proofs.fields.number.Tie as tie
+use Rattle.replay.proofs.parse.number.Statement.{statement}
+use Rattle.replay.proofs.parse.number.Tie as tie
 
 abbrev Inv-loop : tie.InvT-loop
 Inv-loop line at most i₀ v₀ i v = v ≤ 4294967296

@@ -1,11 +1,11 @@
--- `replay::fields::words` meets its contract. No more words are counted than there is room for.
+-- `replay::parse::words` meets its contract. No more words are counted than there is room for.
 -- Assumes nothing.
 use Prim.Native.Nat.{_≤_, _-_}
 use mathlib.Core.Path.{_≡_}
 use lib.ListN.{length}
 use borrow.Author.Needs.{needs}
-use Rattle.replay.proofs.fields.words.Statement.{statement}
-use Rattle.replay.proofs.fields.words.Tie as tie
+use Rattle.replay.proofs.parse.words.Statement.{statement}
+use Rattle.replay.proofs.parse.words.Tie as tie
 
 abbrev Inv-loop : tie.InvT-loop
 Inv-loop line at out₀ n₀ next₀ out n next = (n ≤ length out₀) × (length out ≡ length out₀)

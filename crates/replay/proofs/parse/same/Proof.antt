@@ -1,10 +1,10 @@
--- `replay::fields::same` is safe and ends.
+-- `replay::parse::same` is safe and ends.
 -- Assumes nothing.
 use Prim.Native.Nat.{_-_}
 use lib.ListN.{length}
 use borrow.Author.Needs.{needs}
-use Rattle.replay.proofs.fields.same.Statement.{statement}
-use Rattle.replay.proofs.fields.same.Tie as tie
+use Rattle.replay.proofs.parse.same.Statement.{statement}
+use Rattle.replay.proofs.parse.same.Tie as tie
 
 abbrev Inv-loop : tie.InvT-loop
 Inv-loop a b i₀ i = Unit {0}
