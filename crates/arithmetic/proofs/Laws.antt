@@ -14,7 +14,7 @@ use Rattle.base.specs.Choice.{cond}
 use Rattle.base.specs.Numbers.{numberOf}
 use Rattle.base.proofs.Laws.{number-one}
 use Rattle.base.proofs.ToldLaws.{is-not-no, is-one, no-one}
-use Rattle.base.specs.Told.{Told, is, no}
+use Rattle.base.specs.Told.{is, no}
 use Rattle.instruction.specs.declared.ArithOp.{ArithOp}
 use Rattle.instruction.specs.declared.ArithOp.the-variants as four
 use Rattle.instruction.specs.declared.ArithmeticOp.{ArithmeticOp}

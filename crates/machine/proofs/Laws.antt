@@ -2,9 +2,7 @@
 -- validity, since a plan is made by memory alone. Assumes nothing.
 use mathlib.Core.Path.{_≡_, refl, sym, ap, _∙_}
 use mathlib.Core.Bool.{Bool, true, false}
-use mathlib.Core.List.{List}
 use Prim.Native.Nat.{ℕ, _+_, _≤_}
-use native.Mathlib.Omega.{arith}
 use lib.ListN.{length}
 use Rattle.base.specs.Choice.{cond}
 use Rattle.base.specs.Told.{Told, is, no}
@@ -16,7 +14,7 @@ use Rattle.instruction.specs.declared.Register.the-variants.{PC}
 use Rattle.instruction.specs.declared.Instruction.the-variants.{Noop}
 use Rattle.map.proofs.Laws.{valid-length}
 use Rattle.memory.specs.Bytes.{Lent}
-use Rattle.memory.specs.Words.{readWord, made}
+use Rattle.memory.specs.Words.{readWord}
 use Rattle.memory.specs.declared.Changes.the-variants.{Nothing}
 use Rattle.memory.specs.declared.WordRead.the-variants as word
 use Rattle.memory.proofs.Laws.{SameLengths, same-lengths}
@@ -24,7 +22,7 @@ use Rattle.memory.proofs.Decisions.{made-lengths, nothing-made}
 use Rattle.machine.specs.Answers.{State, Continue, Debug, Stop}
 use Rattle.machine.specs.Registers.{get, put, flag}
 use Rattle.machine.specs.Acts.{noop, act}
-use Rattle.machine.specs.Plan.{Planned, plans, raised, finished, decoded, fetched, plan}
+use Rattle.machine.specs.Plan.{plans, raised, finished, decoded, fetched, plan}
 use Rattle.machine.specs.Step.{After, after, committed, step}
 use Rattle.machine.specs.States.{valid, with}
 use Rattle.machine.specs.declared.Machine.{Machine}
@@ -68,29 +66,25 @@ module _ (m : Machine) (b : Lent) where
 
   -- ---- what every step keeps
 
+  -- what holds where the state is not valid, and after what was planned is made, holds after every step
+  every-step : (P : After → Type 0) → P (after (no 1) m b) → P (committed m b (plan m b)) → P (step m b)
+  every-step P x y = go (valid m (b .dev)) refl
+    where
+      go : (t : Bool) → valid m (b .dev) ≡ t → P (step m b)
+      go false h = rw (invalid-step h) x
+      go true h = rw (valid-step h) y
+
   pub step-lengths : SameLengths (step m b .bytes) b
   unfolding committed
-  step-lengths = go (valid m (b .dev)) refl
-    where
-      go : (t : Bool) → valid m (b .dev) ≡ t → SameLengths (step m b .bytes) b
-      go false h = rw (invalid-step h) (same-lengths b)
-      go true h = rw (valid-step h) (made-lengths (plan m b .changes) b)
+  step-lengths = every-step (λ (x : After). SameLengths (x .bytes) b) (same-lengths b) (made-lengths (plan m b .changes) b)
 
   pub step-map : step m b .machine .map ≡ m .map
   unfolding committed
-  step-map = go (valid m (b .dev)) refl
-    where
-      go : (t : Bool) → valid m (b .dev) ≡ t → step m b .machine .map ≡ m .map
-      go false h = ap (λ (x : After). x .machine .map) (invalid-step h)
-      go true h = ap (λ (x : After). x .machine .map) (valid-step h)
+  step-map = every-step (λ (x : After). x .machine .map ≡ m .map) refl refl
 
   pub step-mode : step m b .machine .mode ≡ m .mode
   unfolding committed
-  step-mode = go (valid m (b .dev)) refl
-    where
-      go : (t : Bool) → valid m (b .dev) ≡ t → step m b .machine .mode ≡ m .mode
-      go false h = ap (λ (x : After). x .machine .mode) (invalid-step h)
-      go true h = ap (λ (x : After). x .machine .mode) (valid-step h)
+  step-mode = every-step (λ (x : After). x .machine .mode ≡ m .mode) refl refl
 
   -- a valid state stays valid
   pub step-valid : valid m (b .dev) ≡ true → valid (step m b .machine) (step m b .bytes .dev) ≡ true

@@ -1,6 +1,6 @@
 pub mod RegisterLaws
 pub mod PlanLaws
-pub mod StoreLaws
 pub mod Laws
+pub mod StoreLaws
 pub mod AnswerLaws
 pub mod MarkedLaw

@@ -1,6 +1,6 @@
 -- What is known of every plan, by cases as the definitions have them: a refused one changes nothing, and each byte that one
 -- stores goes where memory sends it. Assumes nothing.
-use mathlib.Core.Path.{_≡_, refl, ap}
+use mathlib.Core.Path.{_≡_, ap}
 use mathlib.Core.Bool.{Bool, true, false}
 use Prim.Native.Nat.{ℕ}
 use Rattle.base.specs.Choice.{cond}
@@ -32,11 +32,10 @@ use Rattle.memory.specs.declared.Stored.{Stored}
 use Rattle.memory.specs.declared.Stored.the-variants as stored
 use Rattle.memory.specs.declared.Changes.{Changes}
 use Rattle.memory.specs.declared.Changes.the-variants.{Nothing}
-use Rattle.memory.specs.declared.Decision.{Decision}
 use Rattle.memory.proofs.Decisions.{Sound, byte-sound, decision-sound}
 use Rattle.machine.specs.Answers.{State, Continue, Stop}
-use Rattle.machine.specs.Registers.{get, operand, flag}
-use Rattle.machine.specs.Acts.{Act, next, jump, onward, byteStore, wordStore, noop, mov, movShift, result, atOldSp, kept, arith, arithRegReg, marked, cmp, jmp, condJmp, call, callRet, wordLoaded, byteLoaded, fault, ended, storing, wordAt, byteAt, ldrStr, ldbStb, copied, cpy, act}
+use Rattle.machine.specs.Registers.{get, put, operand, flag}
+use Rattle.machine.specs.Acts.{Act, next, jump, onward, byteStore, wordStore, noop, mov, movShift, result, atOldSp, kept, arith, arithRegReg, marked, cmp, jmp, condJmp, call, callRet, wordLoaded, byteLoaded, ended, storing, wordAt, byteAt, ldrStr, ldbStb, copied, cpy, act}
 use Rattle.machine.specs.Plan.{Planned, plans, refusal, raised, finished, decoded, fetched, plan}
 use Rattle.machine.specs.declared.Machine.{Machine}
 use Rattle.machine.specs.declared.Registers.{Registers}
@@ -55,7 +54,7 @@ quiet-refusal s k n e = ap (λ (x : Told State). plans x s Nothing) e
 
 quiet-raised : (s : Registers) (a : State) (t : Registers) (c : Changes) (r : Reached) → Quiet s (raised s a t c r)
 unfolding raised
-quiet-raised s a t c (At pc) = λ n e. is-not-no a n e
+quiet-raised s a t c (At pc) = quiet-accepted s a (put t PC pc) c
 quiet-raised s a t c Past = quiet-refusal s 9
 
 quiet-finished : (s : Registers) (x : Told Act) → Quiet s (finished s x)

@@ -4,4 +4,5 @@ pub mod Acts
 pub mod States
 pub mod Plan
 pub mod Step
+pub mod Stores
 pub mod Marked

@@ -1,9 +1,7 @@
 -- 1 comes first; then what was planned is committed. Assumes nothing.
-use mathlib.Core.Path.{sym, ap, _∙_}
+use mathlib.Core.Path.{sym, _∙_}
 use borrow.Author.Tests.{not-true, not-false}
-use denote.Ref.{now}
-use Rattle.memory.specs.Bytes.{lent}
-use Rattle.machine.specs.Step.{committed, step}
+use Rattle.machine.specs.Step.{step}
 use borrow.Author.Needs.{needs}
 use Rattle.machine.proofs.steps.step.Statement.{statement}
 use Rattle.machine.proofs.steps.step.Tie as tie
