@@ -3,3 +3,4 @@ pub mod Numbers
 pub mod Words
 pub mod Addresses
 pub mod Told
+pub mod Bytes

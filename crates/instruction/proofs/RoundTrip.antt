@@ -125,6 +125,15 @@ cond-jmp-back v f =
     let op : fieldOf w 0 4 ≡ 5 = unpacked w 0 4 0 5 (mode (Imm v) % 2 + value (Imm v) % 2048 * 2) (omega arith) (omega arith) (omega arith) in
     low-bits w 5 op ∙ rw (operand-back 4 11 5 (Imm v) (omega arith) (omega arith) f)
 
+-- register-mode CondJmp decodes to Jmp
+pub register-cjp : (r : Register) → decode (encode (CondJmp (Reg r))) ≡ is (Jmp (Reg r))
+unfolding arm arms
+register-cjp r =
+    let w = encode (CondJmp (Reg r)) in
+    let hr = register-lt r in
+    let op : fieldOf w 0 4 ≡ 5 = unpacked w 0 4 0 5 (mode (Reg r) % 2 + value (Reg r) % 2048 * 2) (omega arith) (omega arith) (omega arith) in
+    low-bits w 5 op ∙ rw (operand-back 4 11 5 (Reg r) (omega arith) (omega arith) refl)
+
 jmp-back : (o : Operand) → operandFits 11 o ≡ true → decode (encode (Jmp o)) ≡ is (Jmp o)
 unfolding arm arms
 jmp-back o f =

@@ -2,11 +2,13 @@
 mod codes;
 mod decoder;
 mod encoder;
+mod widths;
 
 use base::Refusal;
 pub use codes::register_code;
 pub use decoder::decode;
 pub use encoder::encode;
+pub use widths::fits;
 
 pub enum Register {
     A,

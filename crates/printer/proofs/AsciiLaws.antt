@@ -34,7 +34,7 @@ ascii-append (b ∷ x) y = go (ltb b 128) (ascii-append x y)
     go true e = e
     go false e = refl
 
-digits-ascii : (k n : ℕ) → ascii (digits k n) ≡ true
+pub digits-ascii : (k n : ℕ) → ascii (digits k n) ≡ true
 unfolding digits ascii
 digits-ascii zero n = refl
 digits-ascii (suc k) n = go (ltb n 10) (λ e. let h : 48 + n < 128 = omega (arith, ltb-true n 10 e) in lt-ltb _ _ h) (digits-ascii k (n / 10)) refl

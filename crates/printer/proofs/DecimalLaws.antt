@@ -11,9 +11,13 @@ use lib.ListN.{length, length-append}
 use Rattle.base.specs.Choice.{cond}
 use Rattle.printer.specs.Text.{digit, digits, decimalOf}
 
+pub digits-one : (k n : ℕ) → n < 10 → digits (suc k) n ≡ digit n ∷ []
+unfolding digits
+digits-one k n h = rw (lt-ltb n 10 h)
+
 pub decimal-one : (n : ℕ) → n < 10 → decimalOf n ≡ digit n ∷ []
-unfolding decimalOf digits
-decimal-one n h = rw (lt-ltb n 10 h)
+unfolding decimalOf
+decimal-one n h = digits-one 4 n h
 
 fewer : (k n : ℕ) → n < 10 ^ suc (suc k) → n / 10 < 10 ^ suc k
 fewer k n h = div-lt-iff-lt-mul {k = 10} (omega arith) .1 (rw (pow-suc 10 (suc k)) at h)
@@ -27,9 +31,12 @@ tens : (k n : ℕ) → 10 ≤ n → digits (suc k) n ≡ digits k (n / 10) ++ (d
 unfolding digits
 tens k n h = rw (le-ltb n 10 h)
 
+pub digits-more : (k n : ℕ) → 10 ≤ n → n < 10 ^ suc (suc k) → digits (suc (suc k)) n ≡ digits (suc (suc k)) (n / 10) ++ (digit (n % 10) ∷ [])
+digits-more k n g h = tens (suc k) n g ∙ rw (steady k (n / 10) (fewer k n h))
+
 pub decimal-more : (n : ℕ) → 10 ≤ n → n < 65536 → decimalOf n ≡ decimalOf (n / 10) ++ (digit (n % 10) ∷ [])
 unfolding decimalOf
-decimal-more n g h = let f : n / 10 < 10000 = omega arith in tens 4 n g ∙ rw (steady 3 (n / 10) f)
+decimal-more n g h = digits-more 3 n g (omega arith)
 
 pub digits-length : (k n : ℕ) → length (digits k n) ≤ k
 unfolding digits

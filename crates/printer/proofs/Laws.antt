@@ -7,7 +7,8 @@ use Prim.Native.Nat.{ℕ, _+_, _≤_, _<_}
 use native.Mathlib.Omega.{arith}
 use borrow.Author.Tests.{le-leb, lt-leb}
 use lib.Dec.{eqb}
-use lib.ListN.{length, length-append}
+use lib.ListN.{length, take, drop, length-append}
+use lib.Seq.{take-append-seam, sets, sets-eq}
 use Rattle.base.specs.Choice.{cond}
 use Rattle.base.specs.Told.{is, no}
 use Rattle.instruction.specs.declared.Register.{Register}
@@ -42,6 +43,16 @@ module _ (i : Instruction) (at : ℕ) where
   pub buffer-19 : (buffer : List ℕ) → length buffer < at + length (text i) → printBuffer i buffer at ≡ buffer
   unfolding printBuffer
   buffer-19 buffer h = rw (lt-leb _ _ h)
+
+-- bytes that were stored one by one, where there is room for them
+pub placed-sets : (bytes out : List ℕ) (at : ℕ) → at + length bytes ≤ length out → sets out at bytes ≡ placed bytes out at
+unfolding placed
+placed-sets bytes out at h = sets-eq bytes out at h
+
+-- bytes at the start are the first
+pub placed-first : (bytes out : List ℕ) → take (length bytes) (placed bytes out 0) ≡ bytes
+unfolding placed
+placed-first bytes out = take-append-seam bytes (drop (0 + length bytes) out)
 
 -- ---- lengths
 

@@ -1,11 +1,9 @@
 -- The text of an instruction. MSL and MSR have the amount first, Noop is NOOP.
 use Prim.Native.Nat.{ℕ, zero, suc, _+_, _/_, _%_}
-use Prim.Native.Char.{code}
-use Prim.Native.String as S
-use Prim.Native.String.{String}
 use mathlib.Core.Bool.{Bool, true, false}
 use mathlib.Core.List.{List, [], _∷_, _++_}
 use lib.Dec.{ltb, eqb}
+pub use Rattle.base.specs.Bytes.{bytes}
 use Rattle.base.specs.Choice.{cond}
 use Rattle.instruction.specs.declared.Register.{Register}
 use Rattle.instruction.specs.declared.Register.the-variants.{A, B, C, M, SP, PC, BP, FLAGS}
@@ -19,11 +17,6 @@ use Rattle.instruction.specs.declared.CompareOp.{CompareOp}
 use Rattle.instruction.specs.declared.CompareOp.the-variants.{Eq, NotEq, Less, LessEq, Greater, GreaterEq}
 use Rattle.instruction.specs.declared.Instruction.{Instruction}
 use Rattle.instruction.specs.declared.Instruction.the-variants.{Noop, Mov, MovShift, Arith, ArithRegReg, LdrStr, LdbStb, Cpy, Jmp, CondJmp, Cmp, CallRet}
-
--- the codes of the characters
-abbrev pub bytes : String → List ℕ
-bytes S.[] = []
-bytes (S._∷_ c s) = code c ∷ bytes s
 
 -- ---- numbers
 

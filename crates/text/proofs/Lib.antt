@@ -1,0 +1,5 @@
+pub mod PartLaws
+pub mod TokenLaws
+pub mod LineLaws
+pub mod ImmediateLaws
+pub mod Laws

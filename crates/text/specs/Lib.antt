@@ -1,0 +1,4 @@
+pub mod Parts
+pub mod Tokens
+pub mod Lines
+pub mod Immediates
