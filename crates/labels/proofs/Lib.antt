@@ -1,0 +1,5 @@
+pub mod ListLaws
+pub mod FindLaws
+pub mod Laws
+pub mod NameLaws
+pub mod Scans

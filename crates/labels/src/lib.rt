@@ -1,0 +1,37 @@
+// The assembler's two tables of names, as flat lent arrays: labels with their addresses, and references that wait for a label.
+// A name is the part of a text from `place` on, `length` bytes long. Arrays may have any lengths: a table has as many entries
+// as the shortest of its arrays.
+mod arrays;
+mod entries;
+mod opens;
+
+pub use entries::address_at;
+pub use entries::find;
+pub use entries::names;
+pub use entries::put_label;
+pub use entries::room;
+pub use opens::open_at;
+pub use opens::open_room;
+pub use opens::put_open;
+use parser::Reference;
+
+// A label's name, and the byte address that it stands for.
+pub struct Label {
+    pub place: usize,
+    pub length: usize,
+    pub address: u16,
+}
+
+// An open reference: the name it waits for, the number of the instruction that waits, and what it becomes.
+pub struct Open {
+    pub place: usize,
+    pub length: usize,
+    pub word: u16,
+    pub reference: Reference,
+}
+
+// Which entry has a name.
+pub enum Found {
+    Nothing,
+    At(usize),
+}

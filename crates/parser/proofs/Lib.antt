@@ -1,0 +1,4 @@
+pub mod OperandLaws
+pub mod NumberLaws
+pub mod Laws
+pub mod ReferLaws

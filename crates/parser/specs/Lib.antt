@@ -1,0 +1,4 @@
+pub mod References
+pub mod Answers
+pub mod Operands
+pub mod Parse
