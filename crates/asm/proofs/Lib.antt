@@ -1,0 +1,17 @@
+pub mod AnswerLaws
+pub mod WordLaws
+pub mod LabelLaws
+pub mod PatchLaws
+pub mod TurnLaws
+pub mod ReadLaws
+pub mod FillLaws
+pub mod LineLaws
+pub mod Places
+pub mod Items
+pub mod Accepted
+pub mod Tables
+pub mod Slots
+pub mod Patches
+pub mod Meanings
+pub mod Decoding
+pub mod Sound

@@ -1,0 +1,29 @@
+-- An index within the output is stored at; past its end `set` changes nothing. Assumes nothing.
+use borrow.Author.Needs.{needs}
+use lib.Seq.{set-out}
+use mathlib.Core.Path.{sym}
+use Rattle.asm.specs.Views.{left}
+use Rattle.asm.proofs.words.put_word.Statement.{statement}
+use Rattle.asm.proofs.words.put_word.Tie as tie
+
+cast-i : tie.Need-cast-i
+cast-i c = search needs
+
+mul-words : tie.Need-mul-words
+mul-words c = search needs
+
+slice-write-words : tie.Need-slice-write-words
+slice-write-words c = search needs
+
+same-length : tie.Need-same-length
+same-length c = search needs
+
+returns : tie.Need-returns
+returns c = search needs
+
+returns-2 : tie.Need-returns-2
+returns-2 c = sym (set-out _ _ _ (c .if1 .left))
+
+pub put-word-spec : {M : Type 1} → statement M
+put-word-spec =
+    tie.close (tie.spec cast-i mul-words slice-write-words same-length returns returns-2)

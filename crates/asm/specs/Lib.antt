@@ -1,0 +1,8 @@
+pub mod Reading
+pub mod Words
+pub mod Labels
+pub mod Work
+pub mod Views
+pub mod Assemble
+pub mod Single
+pub mod Meaning

@@ -1,0 +1,33 @@
+// The word of an instruction, under the rules. What strict assembly refuses is said in `strict_word` alone.
+ghost use mathlib.Core.Path.{_≡_};
+ghost use Rattle.asm.specs.Words.{toldWord, strictWord, wordOf};
+use crate::Rules;
+use base::Refusal;
+use instruction::Instruction;
+use instruction::encode;
+use instruction::fits;
+
+pub enum Word {
+    Is(u16),
+    Refused(Refusal),
+}
+
+fn strict_word(i: Instruction) -> Word
+    ensures { λ r. ⌜ toldWord r ≡ strictWord i ⌝ }
+{
+    if fits(i) {
+        Word::Is(encode(i))
+    } else {
+        Word::Refused(Refusal::FieldTooWide)
+    }
+}
+
+pub fn word_of(rules: Rules, i: Instruction) -> Word
+    ensures { λ r. ⌜ toldWord r ≡ wordOf (rules .strict) i ⌝ }
+{
+    if rules.strict {
+        strict_word(i)
+    } else {
+        Word::Is(encode(i))
+    }
+}
