@@ -1,0 +1,9 @@
+pub mod PenLaws
+pub mod NumberLaws
+pub mod LineLaws
+pub mod TextLaws
+pub mod Laws
+pub mod ShownLaws
+pub mod AnswerLaws
+pub mod AsciiLaws
+pub mod Example
