@@ -3,6 +3,8 @@
 //! One line in, one line out, the same line that `replay` writes. Where the Rust has no word on a line, since the
 //! line lies outside document 01's domain, the driver answers by 01's words itself and puts `~` in front.
 mod answers;
+mod assembler_part;
+mod assembling;
 mod fields;
 mod host;
 mod instructions;
@@ -12,7 +14,9 @@ mod memory_part;
 mod own;
 mod panics;
 mod pieces;
+mod quiet;
 mod undo;
+mod walk;
 
 use answers::Answer;
 use fields::Fields;
@@ -50,6 +54,11 @@ const COMMANDS: &[(&[u8], Command)] = &[
     (b"decode", instructions::decode),
     (b"print", instructions::print),
     (b"encode", instructions::encode),
+    // the assembler of asm/mod.rs
+    (b"asm", assembler_part::asm),
+    (b"asmn", assembler_part::asmn),
+    (b"line", assembler_part::line),
+    (b"listing", assembler_part::listing),
 ];
 
 fn main() -> io::Result<()> {

@@ -1,8 +1,10 @@
-//! The fields of a line, parted by exactly one space: no empty field, none before the first or after the last.
+//! The fields of a line, parted by exactly one space: no empty field, none before the first or after the last. The numbers of a
+//! field can be parted likewise by commas.
 
 pub struct Fields<'a> {
     /// What is left of the line, without the space before it; `None` after the last field.
     rest: Option<&'a [u8]>,
+    by: u8,
 }
 
 /// The bounds of the language.
@@ -11,18 +13,25 @@ pub const BYTE: u64 = 255;
 pub const MEMORY: u64 = 65_792;
 pub const JOURNAL: u64 = 94_300;
 pub const WORDS: u64 = 32_800;
+pub const ENTRIES: u64 = 1_100;
+pub const TEXT: u64 = 65_600;
+pub const COPIES: u64 = 131_200;
 pub const ROOM: u64 = 65_600;
 pub const SIZE: u64 = 4_294_967_295;
 
 impl<'a> Fields<'a> {
     pub fn of(line: &'a [u8]) -> Fields<'a> {
-        Fields { rest: Some(line) }
+        Fields::parted(line, b' ')
+    }
+
+    pub fn parted(line: &'a [u8], by: u8) -> Fields<'a> {
+        Fields { rest: Some(line), by }
     }
 
     /// The next field; `None` where there is none, or it is empty.
     pub fn field(&mut self) -> Option<&'a [u8]> {
         let rest = self.rest?;
-        let field = match rest.iter().position(|&c| c == b' ') {
+        let field = match rest.iter().position(|&c| c == self.by) {
             Some(at) => {
                 self.rest = Some(&rest[at + 1..]);
                 &rest[..at]
@@ -77,6 +86,11 @@ impl<'a> Fields<'a> {
             return None;
         }
         field.chunks(2).map(|pair| Some(16 * hex_digit(pair[0])? + hex_digit(pair[1])?)).collect()
+    }
+
+    /// A text of at most so many bytes.
+    pub fn text_of(&mut self, most: u64) -> Option<Vec<u8>> {
+        self.text().filter(|text| text.len() as u64 <= most)
     }
 }
 

@@ -10,10 +10,14 @@ DRIVER = os.path.join(os.path.dirname(HERE), "target", "oracle", "driver")
 LANGUAGE = ["new", "poke", "regs", "tables"]
 MEMORY = ["byte", "word", "put", "putw", "protect", "device", "load", "loadn", "read"]
 MACHINE = ["set", "step", "decode", "print", "encode"]
-COMMANDS = LANGUAGE + MEMORY + MACHINE + ["state"]
+ASSEMBLER = ["asm", "asmn", "line", "listing"]
+COMMANDS = LANGUAGE + MEMORY + MACHINE + ASSEMBLER + ["state"]
+
+# What is counted apart.
+COUNTED = {"steps": ["step"], "texts": ["asm", "asmn", "listing"], "lines": ["line"]}
 
 # 01's numbers that these commands can answer.
-NUMBERS = [1, 2, 3, 4, 5, 6, 7, 8, 9, 12, 13, 14, 15, 16, 17, 18, 19]
+NUMBERS = [n for n in range(1, 31) if n not in (10, 11)]
 
 # Answers that are a word by themselves.
 ANSWERS = ["ok", "none", "failed", "continue", "debug", "stop", "?"]
@@ -65,6 +69,8 @@ def said(answer):
     answer = answer.removeprefix("~")
     if answer.startswith("no "):
         return " ".join(answer.split(" ")[:2])
+    if answer.startswith("ok "):
+        return "ok"
     return answer if answer in ANSWERS else "value"
 
 

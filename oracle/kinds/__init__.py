@@ -3,10 +3,31 @@ stands by itself."""
 import itertools
 import random
 
-from . import damaged, edges, encodings, numbers, step_readings, steps, walks, words
+from . import (
+    damaged,
+    edges,
+    encodings,
+    line_shapes,
+    lines,
+    numbers,
+    step_readings,
+    steps,
+    text_limits,
+    text_readings,
+    texts,
+    walks,
+    words,
+)
 
 # These have blocks without end.
-ENDLESS = {"edges": edges.blocks, "random": walks.blocks, "damaged": damaged.blocks, "steps": steps.blocks}
+ENDLESS = {
+    "edges": edges.blocks,
+    "random": walks.blocks,
+    "damaged": damaged.blocks,
+    "steps": steps.blocks,
+    "texts": texts.blocks,
+    "lines": lines.blocks,
+}
 
 # These go once through all that they are about.
 ONCE = {
@@ -16,6 +37,9 @@ ONCE = {
     "roots": numbers.roots,
     "powers": numbers.powers,
     "all-powers": numbers.all_powers,
+    "text-readings": text_readings.once,
+    "text-limits": text_limits.once,
+    "line-shapes": line_shapes.once,
 }
 
 KINDS = ENDLESS | ONCE
@@ -43,11 +67,11 @@ def scripts(kind, seed, length):
         yield lines
 
 
-def script_of_steps(seed, count):
-    """Whole blocks with so many steps, or a few more."""
+def script_with(kind, seed, commands, count):
+    """Whole blocks with so many of these commands, or a few more."""
     lines, found = [], 0
-    for block in blocks("steps", seed):
+    for block in blocks(kind, seed):
         lines += block
-        found += block.count("step")
+        found += sum(line.split(" ")[0] in commands for line in block)
         if found >= count:
             return lines

@@ -24,8 +24,8 @@ def surplus(rng, line):
 
 def out_of_range(rng, line):
     """One past a bound of the language, or far past it."""
-    bounds = [256, 65_536, 65_793, 94_301, 32_801, 65_601, 2, 4_294_967_295, 4_294_967_296, 18_446_744_073_709_551_616]
-    return replaced(rng, line, str(rng.choice(bounds)))
+    bounds = [2, 256, 1_101, 32_801, 65_536, 65_601, 65_793, 94_301]
+    return replaced(rng, line, str(rng.choice(bounds + [4_294_967_295, 4_294_967_296, 18_446_744_073_709_551_616])))
 
 
 def no_digits(rng, line):
@@ -71,8 +71,21 @@ def bad_poke(rng, line):
     return f"poke {rng.choice(['memory', 'device', 'journal', 'registers', 'memory,'])} {rng.choice([0, 90, 94_300, 94_301, 65_792])} 00"
 
 
+def bad_entry(rng, line):
+    """A label entry with a number missing, left over, out of range or badly parted."""
+    entries = ["1,2", "1,2,3,4", ",1,2", "1,,2", "1,2,", ",", "1;2;3", "1.2,3", "-1,0,0", "1,2,x"]
+    entry = rng.choice(entries + ["1,2,65536", "4294967296,1,1", "1,4294967296,1"])
+    return f"line 524554 41 {rng.choice(['', '0,1,2 '])}{entry}{rng.choice(['', ' 0,1,2'])}"
+
+
+def bad_rules(rng, line):
+    rules = rng.choice(["strict", "Plain", "strictly", "", "0"])
+    return f"{rng.choice(['asm', 'asmn'])} {rules} 1 1 {rng.choice(['', '2', 'RET'])} 524554"
+
+
 def empty(rng, line):
     return rng.choice(["", " ", "  ", "\t", "\r"])
 
 
-WAYS = [missing, surplus, out_of_range, no_digits, very_long, spaces, wrong_name, bad_text, bad_poke, empty]
+WAYS = [missing, surplus, out_of_range, no_digits, very_long, spaces, wrong_name]
+WAYS += [bad_text, bad_poke, bad_entry, bad_rules, empty]

@@ -1,6 +1,7 @@
 """Tables with one thing broken and then every command on them, and lines that are no commands. What asks for no state, as
 decoding does, is among them too."""
-from . import encodings, steps, walks
+from . import encodings, lines, steps, texts, walks
+from .assembly import asm, copies, listing
 from .bad_lines import bad_line
 from .steer import TOP, Machine, inside, new, tables, word
 
@@ -28,6 +29,8 @@ def every_command(rng, machine):
     commands += [walks.put_word(rng, machine), walks.read_byte(rng, machine), "read 0 0 0"]
     commands += [steps.any_regs(rng, machine), steps.set_one(rng, machine), steps.set_one(rng, machine), "step", "step"]
     commands += [f"decode {word(rng)}", f"print {word(rng)} {rng.randrange(20)}", encodings.random_one(rng)]
+    commands += [lines.command(rng), asm("strict", 3, 2, texts.one_line(rng)), listing(texts.one_line(rng))]
+    commands += [copies("plain", 3, 2, 2, texts.one_line(rng) + "\n", texts.one_line(rng))]
     bases = commands + [walks.valid_tables(rng, Machine(machine.memory, machine.device)), new(rng, 30, 9), "state"]
     commands += [bad_line(rng, rng.choice(bases)) for _ in range(5)]
     rng.shuffle(commands)

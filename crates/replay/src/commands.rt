@@ -7,6 +7,8 @@ use crate::answers::changed;
 use crate::answers::kept;
 use crate::answers::say;
 use crate::answers::spoken;
+use crate::assembling::assemble;
+use crate::assembling::assemble_copies;
 use crate::bytes::byte_put;
 use crate::bytes::byte_read;
 use crate::bytes::poke;
@@ -17,6 +19,7 @@ use crate::dumps::read;
 use crate::instructions::decode;
 use crate::instructions::encode;
 use crate::instructions::print;
+use crate::listings::listing;
 use crate::loads::load;
 use crate::loads::load_same;
 use crate::machines::regs;
@@ -25,6 +28,7 @@ use crate::machines::step;
 use crate::names;
 use crate::parse::name_end;
 use crate::setup::make;
+use crate::single_lines::parse_line;
 use crate::state::State;
 use crate::tables::protect;
 use crate::tables::register;
@@ -81,6 +85,18 @@ fn printed_word(c: u16, line: &[u8], at: usize, out: &mut [u8], p: usize) -> usi
     }
     if c == names::PRINT {
         return print(line, at, out, p);
+    }
+    if c == names::ASM {
+        return assemble(line, at, out, p);
+    }
+    if c == names::ASMN {
+        return assemble_copies(line, at, out, p);
+    }
+    if c == names::LINE {
+        return parse_line(line, at, out, p);
+    }
+    if c == names::LISTING {
+        return listing(line, at, out, p);
     }
     encode(line, at, out, p)
 }

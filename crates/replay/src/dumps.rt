@@ -65,16 +65,11 @@ pub fn read(
     )
 }
 
-// A separator in front of every item but the first.
-fn parted(out: &mut [u8], at: usize, i: usize, b: u8) -> usize {
-    if i == 0 { at } else { output::put(out, at, b) }
-}
-
 fn registers(out: &mut [u8], at: usize, regs: [u16; 8]) -> usize {
     let mut p = at;
     let mut i: usize = 0;
     while i < 8 {
-        p = parted(out, p, i, b',');
+        p = output::parted(out, p, i, b',');
         p = output::decimal(out, p, regs[i] as u64);
         i += 1;
     }
@@ -82,7 +77,7 @@ fn registers(out: &mut [u8], at: usize, regs: [u16; 8]) -> usize {
 }
 
 fn pair(out: &mut [u8], at: usize, i: usize, a: u16, b: u16) -> usize {
-    let p = parted(out, at, i, b';');
+    let p = output::parted(out, at, i, b';');
     let p = output::decimal(out, p, a as u64);
     let p = output::put(out, p, b',');
     output::decimal(out, p, b as u64)

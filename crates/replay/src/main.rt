@@ -3,11 +3,13 @@
 // implementation of document 01 and the two texts compared. A line that is not right answers `?` and changes nothing.
 mod adler;
 mod answers;
+mod assembling;
 mod bytes;
 mod commands;
 mod dumps;
 mod input;
 mod instructions;
+mod listings;
 mod loads;
 mod machines;
 mod names;
@@ -15,6 +17,7 @@ mod output;
 mod parse;
 mod rows;
 mod setup;
+mod single_lines;
 mod state;
 mod tables;
 mod texts;

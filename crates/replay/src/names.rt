@@ -47,6 +47,14 @@ pub const PRINT: u16 = 18;
 
 pub const ENCODE: u16 = 19;
 
+pub const ASM: u16 = 20;
+
+pub const LINE: u16 = 21;
+
+pub const LISTING: u16 = 22;
+
+pub const ASMN: u16 = 23;
+
 // The command of this name.
 pub fn command(name: &[u8]) -> u16 {
     if same(name, b"new") {
@@ -82,6 +90,18 @@ fn of_words(name: &[u8]) -> u16 {
     }
     if same(name, b"encode") {
         return ENCODE;
+    }
+    if same(name, b"asm") {
+        return ASM;
+    }
+    if same(name, b"line") {
+        return LINE;
+    }
+    if same(name, b"listing") {
+        return LISTING;
+    }
+    if same(name, b"asmn") {
+        return ASMN;
     }
     of_memory(name)
 }

@@ -33,6 +33,11 @@ pub fn text(out: &mut [u8], at: usize, t: &[u8]) -> usize {
     p
 }
 
+// A separator in front of every item but the first.
+pub fn parted(out: &mut [u8], at: usize, i: usize, b: u8) -> usize {
+    if i == 0 { at } else { put(out, at, b) }
+}
+
 pub fn decimal(out: &mut [u8], at: usize, n: u64) -> usize {
     let mut digits = [0u8; 20];
     let k = io::decimal(n, &mut digits);

@@ -19,15 +19,20 @@ pub struct WordField {
     pub next: usize,
 }
 
-// How many words were read, and where the last of them ended.
+// How many words or entries were read, and where the last of them ended.
 pub struct WordList {
     pub count: usize,
     pub next: usize,
 }
 
+// The byte at a place, or this one where the line has ended.
+fn byte_or(line: &[u8], at: usize, other: u8) -> u8 {
+    if at < line.len() { line[at] } else { other }
+}
+
 // The byte at a place, where what follows the line counts as spaces: a field ends at a space or at the line's end.
 pub fn byte_at(line: &[u8], at: usize) -> u8 {
-    if at < line.len() { line[at] } else { b' ' }
+    byte_or(line, at, b' ')
 }
 
 // Where the line's first field ends.
@@ -108,24 +113,31 @@ fn grown(v: u64, b: u8) -> u64
     if 4294967296 < r { 4294967296 } else { r }
 }
 
-// The number that follows `at`, at most `most`.
-pub fn number(line: &[u8], at: usize, most: u32) -> NumberField
+// The number whose digits begin at `from`; this byte, or the line's end, follows its last digit.
+fn digits(line: &[u8], from: usize, end: u8, most: u32) -> NumberField
     ensures { λ r. ⌜ r .value ≤ most ⌝ }
 {
-    let mut i = opened(line, at);
+    let mut i = from;
     let mut v: u64 = 0;
-    if line.len() <= i {
+    if byte_or(line, from, end) == end {
         return no_number();
     }
     while i < line.len() {
         let b = line[i];
-        if b == b' ' {
+        if b == end {
             break;
         }
         v = grown(v, b);
         i += 1;
     }
     bounded(v, i, most)
+}
+
+// The number that follows `at`, at most `most`.
+pub fn number(line: &[u8], at: usize, most: u32) -> NumberField
+    ensures { λ r. ⌜ r .value ≤ most ⌝ }
+{
+    digits(line, opened(line, at), b' ', most)
 }
 
 fn bounded(v: u64, next: usize, most: u32) -> NumberField
@@ -165,6 +177,35 @@ pub fn words(line: &[u8], at: usize, out: &mut [u16]) -> WordList
         n += 1;
     }
     WordList { count: n, next }
+}
+
+// Where what follows the comma at `at` begins.
+fn past_comma(line: &[u8], at: usize) -> usize {
+    if line.len() <= at {
+        return NOWHERE;
+    }
+    if line[at] == b',' { at + 1 } else { NOWHERE }
+}
+
+// A label entry as a field has it: three numbers with commas between them.
+pub struct EntryField {
+    pub place: usize,
+    pub length: usize,
+    pub address: u16,
+    pub next: usize,
+}
+
+// The entry that follows `at`. Its place and its length may be any number of 32 bits, so that they can lie past every text.
+pub fn entry(line: &[u8], at: usize) -> EntryField {
+    let place = digits(line, opened(line, at), b',', 4294967295);
+    let length = digits(line, past_comma(line, place.next), b',', 4294967295);
+    let address = digits(line, past_comma(line, length.next), b' ', 65535);
+    EntryField {
+        place: place.value as usize,
+        length: length.value as usize,
+        address: address.value as u16,
+        next: address.next,
+    }
 }
 
 // Where the field that follows `at` ends, if it is this very name.
