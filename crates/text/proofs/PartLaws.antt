@@ -1,6 +1,5 @@
 -- Runs, trimming and sameness, at an index of a list.
 use Prim.Native.Nat.{_+_, _-_, _<_, _≤_, suc, zero, ℕ}
-use borrow.Author.Tests.{eq-eqb, ne-eqb}
 use lib.ListN.{drop, drop-of-length-le, getD, length, length-drop, take}
 use lib.Seq.{drop-cons, take-all, take-suc}
 use mathlib.Core.Bool.{Bool, false, true}
@@ -9,6 +8,7 @@ use mathlib.Core.Path.{_∙_, _≡_, ap, refl, sym}
 use native.Mathlib.Nat.{not-suc-le-zero}
 use native.Mathlib.Numerals.{add-one}
 use native.Mathlib.Omega.{arith}
+use Rattle.base.proofs.SameLaws.{same-equal, same-self}
 use Rattle.base.specs.Bytes.{same}
 use Rattle.base.specs.Choice.{cond}
 use Rattle.text.specs.Parts.{dropEnd, keepIf, run}
@@ -23,16 +23,30 @@ module _ (p : ℕ → Bool) (s : List ℕ) (i : ℕ) where
   pub run-end : length s ≤ i → run p (drop i s) ≡ 0
   run-end h = rw drop-of-length-le
 
--- equality at an index
-module _ (a b : List ℕ) (i : ℕ) (ha : i < length a) (hb : i < length b) where
-  pub same-step : getD a i 0 ≡ getD b i 0 → same (drop i a) (drop i b) ≡ same (drop (i + 1) a) (drop (i + 1) b)
-  same-step e = rw (add-one, drop-cons a i 0, drop-cons b i 0, eq-eqb _ _ e)
+-- equality, compared from the end: the two are equal from i on
+module _ (a b : List ℕ) (i : ℕ) where
+  pub same-tail : 0 < i → i ≤ length a → i ≤ length b → getD a (i - 1) 0 ≡ getD b (i - 1) 0 → drop i a ≡ drop i b → drop (i - 1) a ≡ drop (i - 1) b
+  same-tail h ha hb e t =
+      let q : suc (i - 1) ≡ i = omega (arith, h) in
+      let u : drop (suc (i - 1)) a ≡ drop (suc (i - 1)) b = ap (λ k. drop k a) q ∙ t ∙ ap (λ k. drop k b) (sym q) in
+      let m : getD a (i - 1) 0 ∷ drop (suc (i - 1)) a ≡ getD b (i - 1) 0 ∷ drop (suc (i - 1)) b = rw (e, u) in
+      drop-cons a (i - 1) 0 (omega (arith, h, ha)) ∙ m ∙ sym (drop-cons b (i - 1) 0 (omega (arith, h, hb)))
 
-  pub same-stop : (getD a i 0 ≡ getD b i 0 → ⊥) → same (drop i a) (drop i b) ≡ false
-  same-stop e = rw (drop-cons a i 0, drop-cons b i 0, ne-eqb _ _ e)
+  pub same-stop : (getD a i 0 ≡ getD b i 0 → ⊥) → same a b ≡ false
+  same-stop h = go (same a b) refl
+    where
+      go : (t : Bool) → same a b ≡ t → t ≡ false
+      go true e = absurd (h (ap (λ l. getD l i 0) (same-equal a b e)))
+      go false e = refl
 
-pub same-end : (a b : List ℕ) (i : ℕ) → length a ≤ i → length b ≤ i → same (drop i a) (drop i b) ≡ true
-same-end a b i ha hb = rw (drop-of-length-le a ha, drop-of-length-le b hb)
+pub same-none : (a b : List ℕ) (i : ℕ) → length a ≤ i → length b ≤ i → drop i a ≡ drop i b
+same-none a b i ha hb = rw (drop-of-length-le a ha, drop-of-length-le b hb)
+
+pub same-all : (a b : List ℕ) (i : ℕ) → i ≤ 0 → drop i a ≡ drop i b → same a b ≡ true
+same-all a b i h t =
+    let z : i ≡ 0 = omega (arith, h) in
+    let e : a ≡ b = sym (ap (λ k. drop k a) z) ∙ t ∙ ap (λ k. drop k b) z in
+    ap (λ l. same a l) (sym e) ∙ same-self a
 
 -- a run is no longer than the list
 pub run-le : (p : ℕ → Bool) (xs : List ℕ) → run p xs ≤ length xs

@@ -4,19 +4,19 @@ ghost use Rattle.base.specs.Bytes.{same};
 ghost use Rattle.text.specs.Parts.{equals, isBlank, dropEnd, dropFront};
 use crate::blanks::is_blank;
 
-// Are the two the same bytes?
+// Are the two the same bytes? Names of one length often begin alike and differ in a number at the end: so the end is compared first.
 pub fn same(a: &[u8], b: &[u8]) -> bool
     ensures { λ r. ⌜ r ≡ same (now (a .entry)) (now (b .entry)) ⌝ }
 {
     if a.len() != b.len() {
         return false;
     }
-    let mut i = 0;
-    while i < a.len() {
+    let mut i = a.len();
+    while 0 < i {
+        i -= 1;
         if a[i] != b[i] {
             return false;
         }
-        i += 1;
     }
     true
 }
