@@ -41,9 +41,6 @@ pub labels-stored : (ps ls ads ps' ls' ads' : List ℕ) (i : ℕ) (l : Label) �
 labels-stored ps ls ads ps' ls' ads' i l p q r = rw (p, q, r) (labels-set ps ls ads i (l .place) (l .length) (l .address))
 
 module _ (text : List ℕ) (labels : List Label) (count : ℕ) (h : count ≤ length labels) (l : Label) where
-  name : List ℕ
-  name = part text (l .place) (l .length)
-
   pub define-used : (f : Found) → find text (part text (l .place) (l .length)) (take count labels) ≡ f → (d : Defined) → used d ≡ usedOf f count (length labels) →
       defined d (set labels (slotOf f count) l) ≡ define text (length labels) l (take count labels)
   unfolding define

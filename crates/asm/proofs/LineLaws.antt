@@ -25,9 +25,6 @@ use Rattle.base.specs.declared.refusals.Refusal.the-variants as Refusal
 use Rattle.asm.specs.declared.Assembled.the-variants as Assembled
 
 module _ (t : Task) (text : List ℕ) (at e line : ℕ) (w : Work) (h : at < length text) (end : e ≡ at + run notEnd (drop at text)) where
-  taken : List ℕ
-  taken = take (e - at) (drop at text)
-
   next : assembleFrom t (lines (drop at text)) at line w
       ≡ onward (line + 1) (turn t at (read (take (e - at) (drop at text))) w) (assembleFrom t (lines (drop (e + 1) text)) (e + 1) (line + 1))
   next =

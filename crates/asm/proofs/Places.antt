@@ -6,14 +6,14 @@ use mathlib.Core.Bool.{Bool, true, false}
 use mathlib.Core.List.{List, [], _∷_}
 use native.Mathlib.Omega.{arith}
 use lib.Dec.{eqb, ltb}
-use lib.ListN.{length, drop, length-take, length-drop}
+use lib.ListN.{length, length-drop}
 use Rattle.base.specs.Choice.{cond}
 use Rattle.base.specs.Told.{Told, is, no}
-use Rattle.text.specs.Parts.{isBlank, notBlank, run, dropFront, dropEnd, keepIf}
-use Rattle.text.specs.Tokens.{tokens, tokenAt, pastFirst, secondStart, consHead}
+use Rattle.text.specs.Parts.{isBlank, run, dropFront, dropEnd}
+use Rattle.text.specs.Tokens.{tokens, tokenAt, consHead}
 use Rattle.text.specs.Lines.{lines}
-use Rattle.text.proofs.PartLaws.{run-le}
-use Rattle.text.proofs.TokenLaws.{second-part}
+use Rattle.text.proofs.PartLaws.{run-le, end-le}
+use Rattle.text.proofs.TokenLaws.{second-fits}
 use Rattle.parser.specs.Answers.{Meaning}
 use Rattle.parser.specs.Answers as Parse
 use Rattle.parser.specs.Parse.{parse}
@@ -38,32 +38,11 @@ Within n (i ∷ items) = (nameEnd i ≤ n) × Within n items
 
 -- ---- a name ends within its line
 
-drop-end-le : (p : ℕ → Bool) (xs : List ℕ) → length (dropEnd p xs) ≤ length xs
-drop-end-le p [] = omega arith
-drop-end-le p (x ∷ xs) = go (p x) (dropEnd p xs) (drop-end-le p xs)
-  where
-    go : (t : Bool) (ys : List ℕ) → length ys ≤ length xs → length (keepIf t x ys) ≤ suc (length xs)
-    go t (y ∷ ys) h = omega arith
-    go true [] h = omega arith
-    go false [] h = omega arith
-
-second-end : (xs : List ℕ) → secondStart xs + length (tokenAt xs 1) ≤ length xs
-second-end xs =
-    let token = tokenAt xs 1 in
-    let a = run-le isBlank xs in
-    let b = run-le notBlank (dropFront isBlank xs) in
-    let c = run-le isBlank (drop (pastFirst xs) xs) in
-    let e = length-drop (run isBlank xs) xs in
-    let f = length-drop (pastFirst xs) xs in
-    let g = length-drop (secondStart xs) xs in
-    let h = ap length (second-part xs) in
-    omega (arith, length-take (length token) (drop (secondStart xs) xs))
-
 said-within : (at : ℕ) (line : List ℕ) (m : Told Meaning) → parse (tokens line) ≡ m → toldEnd (said at line m) ≤ at + length line
 said-within at line (is (Parse.says i)) e = omega arith
 said-within at line (is (Parse.refers r name)) e =
     let n : length name ≡ length (tokenAt line 1) = ap length (refers-second (tokens line) r name e) in
-    omega (arith, second-end line)
+    omega (arith, second-fits line)
 said-within at line (no n) e = omega arith
 
 trimmed-within : (at : ℕ) (line : List ℕ) → toldEnd (readTrimmed at line) ≤ at + length line
@@ -73,14 +52,14 @@ trimmed-within at (x ∷ xs) = go (eqb x 59) (ltb (length (nameIn (x ∷ xs))) (
     go : (t u : Bool) →
         toldEnd (cond t (is skip) (cond u (is (label at (length (nameIn (x ∷ xs))))) (said at (x ∷ xs) (parse (tokens (x ∷ xs)))))) ≤ at + length (x ∷ xs)
     go true u = omega arith
-    go false true = omega (arith, drop-end-le (λ y. eqb y 58) (x ∷ xs))
+    go false true = omega (arith, end-le (λ y. eqb y 58) (x ∷ xs))
     go false false = said-within at (x ∷ xs) (parse (tokens (x ∷ xs))) refl
 
 read-within : (line : List ℕ) → toldEnd (read line) ≤ length line
 unfolding read
 read-within line =
     let a = trimmed-within (run isBlank line) (dropEnd isBlank (dropFront isBlank line)) in
-    let b = drop-end-le isBlank (dropFront isBlank line) in
+    let b = end-le isBlank (dropFront isBlank line) in
     let c = length-drop (run isBlank line) line in
     omega (arith, run-le isBlank line)
 

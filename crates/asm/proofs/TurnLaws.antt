@@ -57,9 +57,6 @@ module _ (t : Task) (o : Open) (n : Counts) (words words' : List ℕ) (labels : 
 
 -- a label defined, and the references to it patched
 module _ (t : Task) (place size : ℕ) (n : Counts) (words : List ℕ) (labels : List Label) (waiting : List Open) (h : n .words .0 ≤ length words) where
-  here : Label
-  here = label place size (doubled (n .words .0))
-
   counted : labelled t place size (workOf n words labels waiting) ≡ labelsAt t (label place size (doubled (n .words .0))) (workOf n words labels waiting)
   unfolding labelled
   counted = ap (λ (k : ℕ). labelsAt t (label place size (doubled k)) (workOf n words labels waiting)) (length-take-le (n .words .0) words h)

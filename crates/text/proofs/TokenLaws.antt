@@ -1,6 +1,6 @@
 -- Tokens: blanks in front change nothing, and a word is the first of them.
 -- the tokens of a list: blanks in front change nothing, and a word is the first of them
-use Prim.Native.Nat.{_+_, _<_, _≤_, min, suc, zero, ℕ}
+use Prim.Native.Nat.{_+_, _<_, _≤_, suc, zero, ℕ}
 use borrow.Author.Tests.{not-true}
 use lib.ListN.{drop, drop-of-length-le, getD, length, length-drop, length-take, take}
 use lib.Seq.{drop-cons, drop-drop, length-take-le}
@@ -8,7 +8,6 @@ use mathlib.Core.Bool.{Bool, false, not, true}
 use mathlib.Core.List.{List, [], _∷_}
 use mathlib.Core.Logic.{_⊎_, inl, inr, ⊎-elim}
 use mathlib.Core.Path.{_∙_, _≡_, ap, refl, sym}
-use native.Mathlib.Nat.{min-le-right}
 use native.Mathlib.Numerals.{add-one}
 use native.Mathlib.Omega.{arith}
 use Rattle.base.specs.Choice.{cond}
@@ -127,8 +126,14 @@ second-part xs =
     let l : length (tokenAt xs 1) ≡ n = ap length (e ∙ h) ∙ length-take-le n (dropFront isBlank ys) (run-le notBlank (dropFront isBlank ys)) in
     e ∙ h ∙ ap (λ (k : ℕ). take k (dropFront isBlank ys)) (sym l) ∙ ap (λ (zs : List ℕ). take (length (tokenAt xs 1)) zs) d
 
-pub second-fits : (xs : List ℕ) → secondStart xs ≤ length xs → secondStart xs + length (tokenAt xs 1) ≤ length xs
-second-fits xs h =
-    let e : length (tokenAt xs 1) ≡ min (length (tokenAt xs 1)) (length (drop (secondStart xs) xs)) = ap length (second-part xs) ∙ length-take (length (tokenAt xs 1)) (drop (secondStart xs) xs) in
-    let l : min (length (tokenAt xs 1)) (length (drop (secondStart xs) xs)) ≤ length (drop (secondStart xs) xs) = min-le-right (length (tokenAt xs 1)) (length (drop (secondStart xs) xs)) in
-    omega (arith, e, l, length-drop (secondStart xs) xs)
+pub second-fits : (xs : List ℕ) → secondStart xs + length (tokenAt xs 1) ≤ length xs
+second-fits xs =
+    let token = tokenAt xs 1 in
+    let a = run-le isBlank xs in
+    let b = run-le notBlank (dropFront isBlank xs) in
+    let c = run-le isBlank (drop (pastFirst xs) xs) in
+    let e = length-drop (run isBlank xs) xs in
+    let f = length-drop (pastFirst xs) xs in
+    let g = length-drop (secondStart xs) xs in
+    let h = ap length (second-part xs) in
+    omega (arith, length-take (length token) (drop (secondStart xs) xs))

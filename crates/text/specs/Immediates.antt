@@ -1,7 +1,7 @@
 -- Immediates: `#` decimal or `#0x` hex, one `+` allowed before the digits, at most 65,535, else 24.
 use Prim.Native.Nat.{ℕ, _+_, _-_, _*_}
 use mathlib.Core.List.{List, [], _∷_}
-use mathlib.Core.Bool.{Bool, true, false}
+use mathlib.Core.Bool.{Bool, true, false, _&&_}
 use lib.ListN.{drop}
 use lib.Dec.{ltb, leb, eqb}
 use Rattle.base.specs.Choice.{cond}
@@ -15,12 +15,12 @@ abbrev pub told : Immediate → Told ℕ
 told (Is v) = is v
 told (Refused r) = no (numberOf r)
 
--- the value of a digit, letters in either case; 99, which no base reaches, for a byte that is none
+-- the value of a digit, 0 to 9 or a letter to F in either case; 99, which no base reaches, for a byte that is none
 unfoldable pub digitOf : ℕ → ℕ
 digitOf b =
-    cond (ltb b 48) 99 (cond (leb b 57) (b - 48)
-    (cond (ltb b 65) 99 (cond (leb b 70) (b - 55)
-    (cond (ltb b 97) 99 (cond (leb b 102) (b - 87) 99)))))
+    cond (leb 48 b && leb b 57) (b - 48)
+    (cond (leb 65 b && leb b 70) (b - 55)
+    (cond (leb 97 b && leb b 102) (b - 87) 99))
 
 abbrev pub allDigits : ℕ → List ℕ → Bool
 allDigits base [] = true

@@ -85,7 +85,7 @@ returns-4 c =
     let e : is (Parse.refers (c .before .before .before .p2 .given .0 .0) (tokenAt t 1)) ≡ parse (tokens t) = sym (ap (λ (x : Parsed). told x (tokenAt t 1)) (c .before .before .before .p2 .given .1)) ∙ c .before .before .before .before .before .parse .ensures in
     let start : c .before .second-start .result ≡ secondStart t = c .before .second-start .ensures .0 in
     let size : length (c .token .result .now) ≡ length (tokenAt t 1) = ap length (c .token .ensures) in
-    let fits : secondStart t + length (tokenAt t 1) ≤ length t = second-fits t (omega (arith, start, c .before .second-start .ensures .1)) in (
+    let fits : secondStart t + length (tokenAt t 1) ≤ length t = second-fits t in (
       ap (λ (n : ℕ). is (Reading.refers (c .before .before .before .p2 .given .0 .0) (at + n) (length (c .token .result .now)))) start ∙
           ap (λ (n : ℕ). is (Reading.refers (c .before .before .before .p2 .given .0 .0) (at + secondStart t) n)) size ∙
           ap (said at t) e ∙ read-said at t (s .pre .0) (c .before .before .before .before .before .before .before .before .if1 .left) whole,

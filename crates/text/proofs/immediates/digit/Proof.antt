@@ -1,5 +1,7 @@
+-- Each test of the code decides tests of the definition.
+use native.Mathlib.Omega.{arith}
+use borrow.Author.Tests.{le-leb, lt-leb}
 use borrow.Author.Needs.{needs}
-use borrow.Author.Tests.{le-leb, le-ltb, lt-leb, lt-ltb}
 use Rattle.text.specs.Immediates.{digitOf}
 use Rattle.text.proofs.immediates.digit.Statement.{statement}
 use Rattle.text.proofs.immediates.digit.Tie as tie
@@ -8,18 +10,24 @@ use Rattle.text.proofs.immediates.digit.Lts as lts
 
 returns : tie.Need-returns
 unfolding digitOf
-returns c = (simp (lt-ltb _ _ (c .if1 .taken)), search needs)
+returns c =
+    let b = c .before .args .b in
+    (rw (lt-leb 48 b (omega arith), lt-leb 65 b (omega arith), lt-leb 97 b (omega arith)), search needs)
 
 cast-result : tie.Need-cast-result
 cast-result c = search needs
 
 returns-2 : tie.Need-returns-2
 unfolding digitOf
-returns-2 c = (simp (le-ltb _ _ (c .before .if1 .left), le-leb _ _ (c .if2 .taken)), search needs)
+returns-2 c =
+    let b = c .before .before .args .b in
+    (rw (le-leb 48 b (omega arith), le-leb b 57 (omega arith)), search needs)
 
 returns-3 : tie.Need-returns-3
 unfolding digitOf
-returns-3 c = (simp (le-ltb _ _ (c .before .before .if1 .left), lt-leb _ _ (c .before .if2 .left), lt-ltb _ _ (c .if3 .taken)), search needs)
+returns-3 c =
+    let b = c .before .before .before .args .b in
+    (rw (le-leb 48 b (omega arith), lt-leb b 57 (omega arith), lt-leb 65 b (omega arith), lt-leb 97 b (omega arith)), search needs)
 
 sub-result : tie.Need-sub-result
 sub-result c = search needs
@@ -29,11 +37,15 @@ cast-result-2 c = search needs
 
 returns-4 : tie.Need-returns-4
 unfolding digitOf
-returns-4 c = (simp (le-ltb _ _ (c .before .before .before .if1 .left), lt-leb _ _ (c .before .before .if2 .left), le-ltb _ _ (c .before .if3 .left), le-leb _ _ (c .if4 .taken)), search needs)
+returns-4 c =
+    let b = c .before .before .before .before .args .b in
+    (rw (le-leb 48 b (omega arith), lt-leb b 57 (omega arith), le-leb 65 b (omega arith), le-leb b 70 (omega arith)), search needs)
 
 returns-5 : tie.Need-returns-5
 unfolding digitOf
-returns-5 c = (simp (le-ltb _ _ (c .before .before .before .before .if1 .left), lt-leb _ _ (c .before .before .before .if2 .left), le-ltb _ _ (c .before .before .if3 .left), lt-leb _ _ (c .before .if4 .left), lt-ltb _ _ (c .if5 .taken)), search needs)
+returns-5 c =
+    let b = c .before .before .before .before .before .args .b in
+    (rw (le-leb 48 b (omega arith), lt-leb b 57 (omega arith), le-leb 65 b (omega arith), lt-leb b 70 (omega arith), lt-leb 97 b (omega arith)), search needs)
 
 sub-result-2 : tie.Need-sub-result-2
 sub-result-2 c = search needs
@@ -43,11 +55,15 @@ cast-result-3 c = search needs
 
 returns-6 : tie.Need-returns-6
 unfolding digitOf
-returns-6 c = (simp (le-ltb _ _ (c .before .before .before .before .before .if1 .left), lt-leb _ _ (c .before .before .before .before .if2 .left), le-ltb _ _ (c .before .before .before .if3 .left), lt-leb _ _ (c .before .before .if4 .left), le-ltb _ _ (c .before .if5 .left), le-leb _ _ (c .if6 .taken)), search needs)
+returns-6 c =
+    let b = c .before .before .before .before .before .before .args .b in
+    (rw (le-leb 48 b (omega arith), lt-leb b 57 (omega arith), le-leb 65 b (omega arith), lt-leb b 70 (omega arith), le-leb 97 b (omega arith), le-leb b 102 (omega arith)), search needs)
 
 returns-7 : tie.Need-returns-7
 unfolding digitOf
-returns-7 c = (simp (le-ltb _ _ (c .before .before .before .before .before .if1 .left), lt-leb _ _ (c .before .before .before .before .if2 .left), le-ltb _ _ (c .before .before .before .if3 .left), lt-leb _ _ (c .before .before .if4 .left), le-ltb _ _ (c .before .if5 .left), lt-leb _ _ (c .if6 .left)), search needs)
+returns-7 c =
+    let b = c .before .before .before .before .before .before .args .b in
+    (rw (le-leb 48 b (omega arith), lt-leb b 57 (omega arith), le-leb 65 b (omega arith), lt-leb b 70 (omega arith), le-leb 97 b (omega arith), lt-leb b 102 (omega arith)), search needs)
 
 pub digit-spec : {M : Type 1} → statement M
 digit-spec =
