@@ -6,19 +6,19 @@ use Prim.Native.Nat.{ℕ, _+_, _-_, _≤_, _<_}
 use native.Mathlib.Omega.{arith}
 use lib.Dec.{ltb, leb}
 use lib.ListN.{length, getD, take}
-use borrow.Author.Tests.{leb-true, le-leb, le-ltb, lt-leb}
+use borrow.Author.Tests.{leb-true, ltb-true, le-leb, lt-ltb, le-ltb, lt-leb, not-true}
 use Rattle.base.specs.Choice.{cond}
 use Rattle.map.specs.Tables.{any, sound}
 use Rattle.map.specs.Regions.{regionsOverlap, regionIsSet, usedRegions, spareRegions, protected}
 use Rattle.map.specs.Devices.{deviceCovers, deviceIsSet, usedDevices, spareDevices, total}
-use Rattle.map.specs.Places.{inLinear, placeFrom, place, guard, target, somewhere}
+use Rattle.map.specs.Places.{inLinear, placeFrom, place, guard, target, somewhere, linearByte, linearWord}
 use Rattle.map.specs.Valid.{validRegions, validDevices, valid}
 use Rattle.map.specs.Entries.{device, emptyMap, regionNumber}
 use Rattle.map.specs.declared.Region.{Region}
 use Rattle.map.specs.declared.Map.{Map}
 use Rattle.map.specs.declared.Place.{Place}
 use Rattle.map.specs.declared.Place.the-variants.{Linear, Bank, Nowhere}
-use Rattle.map.proofs.Tests.{first, second, third}
+use Rattle.map.proofs.Tests.{and-left, and-right, first, second, third}
 use Rattle.map.proofs.PlaceLaws.{SameByte, Within, from-within, from-linear, from-one, from-covered, from-uncovered, from-index}
 
 -- ---- places
@@ -35,6 +35,18 @@ bank-somewhere n o i = refl
 pub nowhere-not : somewhere Nowhere ≡ false
 unfolding somewhere
 nowhere-not = refl
+
+-- a linear byte is below the memory's length, and is found there
+module _ (m : Map) (mem a : ℕ) (e : linearByte m mem a ≡ true) where
+  linear-byte-below : a < mem
+  unfolding linearByte
+  linear-byte-below = ltb-true a mem (and-left (ltb a mem) (not (any (deviceCovers a) (usedDevices m))) e)
+
+  linear-byte-place : (dev : ℕ) → place m mem dev a ≡ Linear a
+  unfolding linearByte place inLinear
+  linear-byte-place dev =
+      let f = not-true (any (deviceCovers a) (usedDevices m)) (and-right (ltb a mem) (not (any (deviceCovers a) (usedDevices m))) e) in
+      from-uncovered mem dev (usedDevices m) 0 0 a f ∙ rw (lt-ltb a mem linear-byte-below)
 
 module _ (m : Map) (mem dev : ℕ) where
   -- a place is within the bytes that are lent
@@ -83,6 +95,24 @@ module _ (m : Map) (mem dev : ℕ) where
       go false (Linear i) e = refl
       go t (Bank n o i) e = refl
       go t Nowhere e = refl
+
+-- a word of two linear bytes: the second has an address too, both are below the memory's length, and are found there
+module _ (m : Map) (mem a : ℕ) (e : linearWord m mem a ≡ true) where
+  pub linear-second : a + 1 ≤ 65535
+  unfolding linearWord
+  linear-second = leb-true (a + 1) 65535 (first (leb (a + 1) 65535) (linearByte m mem a) (linearByte m mem (a + 1)) e)
+
+  pub linear-low : (dev : ℕ) → place m mem dev a ≡ Linear a
+  unfolding linearWord
+  linear-low dev = linear-byte-place m mem a (second (leb (a + 1) 65535) (linearByte m mem a) (linearByte m mem (a + 1)) e) dev
+
+  pub linear-high : (dev : ℕ) → place m mem dev (a + 1) ≡ Linear (a + 1)
+  unfolding linearWord
+  linear-high dev = linear-byte-place m mem (a + 1) (third (leb (a + 1) 65535) (linearByte m mem a) (linearByte m mem (a + 1)) e) dev
+
+  pub linear-below : a + 1 < mem
+  unfolding linearWord
+  linear-below = linear-byte-below m mem (a + 1) (third (leb (a + 1) 65535) (linearByte m mem a) (linearByte m mem (a + 1)) e)
 
 -- ---- a valid map
 

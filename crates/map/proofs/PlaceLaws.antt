@@ -1,21 +1,23 @@
 -- Devices have their bytes one after the other, so no byte answers for two addresses, and each covered address has one. Assumes nothing.
 use mathlib.Core.Path.{_≡_, refl}
-use mathlib.Core.Bool.{Bool, true, false, _||_}
+use mathlib.Core.Bool.{Bool, true, false, not, _&&_, _||_, and-false}
 use mathlib.Core.List.{List, [], _∷_}
 use Prim.Native.Nat.{ℕ, suc, _+_, _-_, _≤_, _<_}
 use native.Mathlib.Omega.{arith}
-use lib.Dec.{ltb}
+use lib.Dec.{leb, ltb}
 use lib.ListN.{getD, take}
-use borrow.Author.Tests.{ltb-true, lt-ltb}
+use borrow.Author.Tests.{ltb-true, lt-ltb, le-ltb, le-leb, lt-leb}
 use Rattle.base.specs.Choice.{cond}
 use Rattle.map.specs.Tables.{any}
-use Rattle.map.specs.Devices.{deviceCovers, deviceSize, total}
-use Rattle.map.specs.Places.{inLinear, inBank, placeFrom}
+use Rattle.map.specs.Devices.{deviceCovers, coversEither, deviceSize, usedDevices, total}
+use Rattle.map.specs.Places.{inLinear, inBank, placeFrom, linearByte, linearWord}
 use Rattle.map.specs.Entries.{device}
 use Rattle.map.specs.declared.Device.{Device}
+use Rattle.map.specs.declared.Map.{Map}
 use Rattle.map.specs.declared.Place.{Place}
 use Rattle.map.specs.declared.Place.the-variants.{Linear, Bank, Nowhere}
-use Rattle.map.proofs.DeviceLaws.{covers-from, covers-to}
+use Rattle.map.proofs.Tests.{not-or}
+use Rattle.map.proofs.DeviceLaws.{covers-from, covers-to, any-either}
 
 -- the same byte of the same buffer
 abbrev pub SameByte : Place → Place → Type 0
@@ -182,3 +184,22 @@ module _ (mem dev : ℕ) where
           let f = r e in
           let z : k - n ≡ suc (k - (n + 1)) = omega arith in
           (omega arith, rw z (omega arith), rw z (f .2))
+
+-- ---- a word of two linear bytes
+
+module _ (m : Map) (mem a : ℕ) where
+  -- the last address has no second one
+  pub word-last : 65535 < a + 1 → linearWord m mem a ≡ false
+  unfolding linearWord
+  word-last h = rw (lt-leb (a + 1) 65535 h)
+
+  pub word-past : mem ≤ a + 1 → linearWord m mem a ≡ false
+  unfolding linearWord linearByte
+  word-past h = rw (le-ltb (a + 1) mem h) (and-false (leb (a + 1) 65535 && (ltb a mem && not (any (deviceCovers a) (usedDevices m)))))
+
+  -- where both its addresses are below the memory's length, the devices decide
+  pub word-by-devices : a + 1 ≤ 65535 → a + 1 < mem → not (any (coversEither a (a + 1)) (usedDevices m)) ≡ linearWord m mem a
+  unfolding linearWord linearByte
+  word-by-devices h k =
+      rw (any-either a (a + 1) (usedDevices m), le-leb (a + 1) 65535 h, lt-ltb a mem (omega arith), lt-ltb (a + 1) mem k)
+      (not-or (any (deviceCovers a) (usedDevices m)) (any (deviceCovers (a + 1)) (usedDevices m)))

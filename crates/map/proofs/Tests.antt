@@ -1,6 +1,6 @@
 -- Truth values: what a conjunction and a disjunction say, and when a test in the code is a definition's. Assumes nothing.
 use mathlib.Core.Path.{_≡_, refl, sym}
-use mathlib.Core.Bool.{Bool, true, false, _&&_, _||_}
+use mathlib.Core.Bool.{Bool, true, false, not, _&&_, _||_}
 use Prim.Native.Nat.{ℕ, _<_, _≤_}
 use native.Mathlib.Omega.{arith}
 use lib.Dec.{ltb, leb}
@@ -41,10 +41,22 @@ or-right true false e = refl
 or-right false u e = e
 
 -- two truth values of which each holds if the other does
-same : (t u : Bool) → (t ≡ true → u ≡ true) → (u ≡ true → t ≡ true) → t ≡ u
+pub same : (t u : Bool) → (t ≡ true → u ≡ true) → (u ≡ true → t ≡ true) → t ≡ u
 same true u f g = sym (f refl)
 same false true f g = g refl
 same false false f g = refl
+
+-- neither of two holds where each fails
+pub not-or : (t u : Bool) → not (t || u) ≡ (not t && not u)
+not-or true u = refl
+not-or false u = refl
+
+-- the middle ones of four change places
+pub or-pairs : (t u v w : Bool) → (t || u || (v || w)) ≡ (t || v || (u || w))
+or-pairs true u v w = refl
+or-pairs false true true w = refl
+or-pairs false true false w = refl
+or-pairs false false v w = refl
 
 pub ltb-same : (a b x y : ℕ) → (a < b → x < y) → (x < y → a < b) → ltb a b ≡ ltb x y
 ltb-same a b x y f g =

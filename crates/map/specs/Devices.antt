@@ -10,6 +10,10 @@ use Rattle.map.specs.declared.Map.{Map}
 unfoldable pub deviceCovers : ℕ → Device → Bool
 deviceCovers a d = leb (d .start) a && ltb a (d .end)
 
+-- it covers one of two addresses
+unfoldable pub coversEither : ℕ → ℕ → Device → Bool
+coversEither a b d = deviceCovers a d || deviceCovers b d
+
 -- how many bytes of the device buffer it has
 unfoldable pub deviceSize : Device → ℕ
 deviceSize d = d .end - d .start

@@ -1,9 +1,10 @@
 -- Where the byte of an address is, and where a store to it goes.
 use Prim.Native.Nat.{ℕ, _+_, _-_}
-use mathlib.Core.Bool.{Bool, true, false}
+use mathlib.Core.Bool.{Bool, true, false, not, _&&_}
 use mathlib.Core.List.{List, [], _∷_}
-use lib.Dec.{ltb}
+use lib.Dec.{leb, ltb}
 use Rattle.base.specs.Choice.{cond}
+use Rattle.map.specs.Tables.{any}
 use Rattle.map.specs.Regions.{protected}
 use Rattle.map.specs.Devices.{deviceCovers, deviceSize, usedDevices}
 use Rattle.map.specs.declared.Device.{Device}
@@ -43,3 +44,11 @@ unfoldable pub somewhere : Place → Bool
 somewhere (Linear i) = true
 somewhere (Bank n o i) = true
 somewhere Nowhere = false
+
+-- the byte of address a is a linear one: it is below the memory's length, and no device covers it
+unfoldable pub linearByte : Map → ℕ → ℕ → Bool
+linearByte m mem a = ltb a mem && not (any (deviceCovers a) (usedDevices m))
+
+-- both bytes of the word at a are linear ones: the second has an address too, both are below the memory's length, and no device in use covers one of them
+unfoldable pub linearWord : Map → ℕ → ℕ → Bool
+linearWord m mem a = leb (a + 1) 65535 && linearByte m mem a && linearByte m mem (a + 1)

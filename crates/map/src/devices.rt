@@ -4,14 +4,28 @@ use crate::Map;
 use crate::regions::used;
 ghost use mathlib.Core.Path.{_≡_};
 ghost use lib.ListN.{drop};
-ghost use Prim.Native.Nat.{_≤_};
+ghost use Prim.Native.Nat.{_+_, _≤_};
 ghost use Rattle.map.specs.Tables.{any, sound};
-ghost use Rattle.map.specs.Devices.{deviceCovers, deviceSize, devicesOverlap, deviceForward, deviceIsSet, usedDevices, spareDevices, total};
+ghost use Rattle.map.specs.Devices.{deviceCovers, coversEither, deviceSize, devicesOverlap, deviceForward, deviceIsSet, usedDevices, spareDevices, total};
 
 pub fn device_covers(d: Device, a: u16) -> bool
     ensures { λ t. ⌜ t ≡ deviceCovers a d ⌝ }
 {
     if d.start <= a { a < d.end } else { false }
+}
+
+// Whether a device covers an address or the next one. One that starts at its end, or past it, covers none.
+pub fn covers_either(d: Device, a: u16, b: u16) -> bool
+    requires { ⌜ b ≡ a + 1 ⌝ }
+    ensures { λ t. ⌜ t ≡ coversEither a b d ⌝ }
+{
+    if b < d.start {
+        return false;
+    }
+    if d.end <= a {
+        return false;
+    }
+    d.start < d.end
 }
 
 // How many bytes of the device buffer a device has: none where it starts past its end.

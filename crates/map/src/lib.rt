@@ -6,6 +6,7 @@ mod regions;
 mod tables;
 
 use base::Answer;
+pub use places::is_linear_word;
 pub use places::is_somewhere;
 pub use places::place_of;
 pub use places::target_of;

@@ -1,13 +1,16 @@
 // Where the byte of an address is, and whether it takes a store.
 use crate::Map;
 use crate::Place;
+use crate::devices::covers_either;
 use crate::devices::device_covers;
 use crate::devices::device_size;
 use crate::regions::is_protected;
 use crate::regions::used;
 ghost use mathlib.Core.Path.{_≡_};
-ghost use Prim.Native.Nat.{_≤_};
-ghost use Rattle.map.specs.Places.{place, inBank, inLinear, target, somewhere};
+ghost use Prim.Native.Nat.{_+_, _≤_};
+ghost use Rattle.map.specs.Tables.{any};
+ghost use Rattle.map.specs.Devices.{coversEither, usedDevices};
+ghost use Rattle.map.specs.Places.{place, inBank, inLinear, target, somewhere, linearWord};
 
 // Where the byte of address a is, with mem bytes of linear memory and dev bytes in the device buffer.
 pub fn place_of(m: Map, mem: usize, dev: usize, a: u16) -> Place
@@ -90,4 +93,34 @@ pub fn is_somewhere(p: Place) -> bool
         } => true,
         Place::Nowhere => false,
     }
+}
+
+// Whether a device in use covers an address or the next one.
+fn device_within(m: Map, a: u16, b: u16) -> bool
+    requires { ⌜ b ≡ a + 1 ⌝ }
+    ensures { λ t. ⌜ t ≡ any (coversEither a b) (usedDevices m) ⌝ }
+{
+    let n = used(m.devices);
+    let mut i: usize = 0;
+    while i < n {
+        if covers_either(m.device[i], a, b) {
+            return true;
+        }
+        i += 1;
+    }
+    false
+}
+
+// Whether both bytes of the word at a are linear: they are there, and no device covers one of them.
+pub fn is_linear_word(m: Map, mem: usize, a: u16) -> bool
+    ensures { λ t. ⌜ t ≡ linearWord m mem a ⌝ }
+{
+    if a == 65535 {
+        return false;
+    }
+    let b = a + 1;
+    if mem <= b as usize {
+        return false;
+    }
+    !device_within(m, a, b)
 }

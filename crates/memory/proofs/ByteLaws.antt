@@ -88,3 +88,7 @@ unfolding get answered
 get-some (Linear i) s w h = (getD (s .mem) i 0, rw (lt-ltb i (length (s .mem)) w))
 get-some (Bank n o i) s w h = (getD (s .dev) i 0, rw (lt-ltb i (length (s .dev)) w))
 get-some Nowhere s w h = clash (sym nowhere-not ∙ h)
+
+pub get-linear : (s : Lent) (i : ℕ) → i < length (s .mem) → get (Linear i) s ≡ Byte (getD (s .mem) i 0) (Linear i)
+unfolding get answered
+get-linear s i h = rw (lt-ltb i (length (s .mem)) h)

@@ -1,17 +1,19 @@
 -- A store that is decided and then made is the store: by cases on which bytes are taken, as both definitions have them. Assumes nothing.
 use mathlib.Core.Path.{_≡_, refl, sym, ap, _∙_, subst⁻¹}
 use mathlib.Core.Bool.{Bool, true, false}
-use Prim.Native.Nat.{ℕ}
+use Prim.Native.Nat.{ℕ, _+_}
 use lib.ListN.{length}
+use native.Mathlib.Omega.{arith}
 use Rattle.base.specs.Addresses.{secondAddress}
 use Rattle.base.specs.Words.{lowOf, highOf}
 use Rattle.base.specs.declared.addresses.Reached.{Reached}
 use Rattle.base.specs.declared.addresses.Reached.the-variants.{At, Past}
+use Rattle.base.proofs.AddressLaws.{reached-is}
 use Rattle.base.specs.declared.refusals.Refusal.the-variants.{AddressOverflow}
 use Rattle.map.specs.Places.{somewhere, target}
 use Rattle.map.specs.declared.Map.{Map}
 use Rattle.map.specs.declared.Place.{Place}
-use Rattle.memory.specs.Bytes.{Lent, put, targetIn, takes, storeByte}
+use Rattle.memory.specs.Bytes.{Lent, get, put, targetIn, readByte, takes, storeByte}
 use Rattle.memory.specs.Words.{byteStored, wordStored, storeWord, change, decision, byteDecision, highDecision, bothDecision, wordDecision, made}
 use Rattle.memory.specs.declared.Change.{Change}
 use Rattle.memory.specs.declared.Changes.{Changes}
@@ -20,7 +22,7 @@ use Rattle.memory.specs.declared.Decision.{Decision}
 use Rattle.memory.specs.declared.Stored.{Stored}
 use Rattle.memory.specs.declared.Stored.the-variants as stored
 use Rattle.memory.proofs.ByteLaws.{put-mem, put-dev}
-use Rattle.memory.proofs.Laws.{SameLengths, same-lengths, then-lengths, store-lengths, stored-at, refused-store}
+use Rattle.memory.proofs.Laws.{SameLengths, same-lengths, then-lengths, target-lengths, store-lengths, read-target, stored-at, refused-store}
 use Rattle.memory.proofs.WordLaws.{WordStore, low-fails, past-end, high-fails, both-stored}
 
 -- the decision over these bytes
@@ -144,7 +146,7 @@ module _ (m : Map) (s : Lent) (a w : ℕ) where
       (λ h b n k. case stored.Failed (One (changed m s a (lowOf w))) (storeByte m s a (lowOf w)) (word-low h b n k) (made-one m s a (lowOf w)) (high-fails m s a w h b n k))
       (λ h b n k. case stored.Done (Two (changed m s a (lowOf w)) (changed m s b (highOf w))) (storeByte m (storeByte m s a (lowOf w)) b (highOf w)) (word-both h b n k) (made-two m s a (lowOf w) b (highOf w)) (both-stored m s a w h b n k))
 
--- ---- each change stands at the place that a store to its address goes to, and its address takes a store
+-- ---- each change stands at the place that a store to its address goes to, its address takes a store, and two have two addresses
 
 pub record SoundChange (m : Map) (s : Lent) (x : Change) : Type 0 where
   pub place : x .place ≡ targetIn m s (x .address)
@@ -153,11 +155,19 @@ pub record SoundChange (m : Map) (s : Lent) (x : Change) : Type 0 where
 abbrev pub Sound : Map → Lent → Changes → Type 0
 Sound m s Nothing = Unit {0}
 Sound m s (One x) = SoundChange m s x
-Sound m s (Two x y) = SoundChange m s x × SoundChange m s y
+Sound m s (Two x y) = SoundChange m s x × SoundChange m s y × (y .address ≡ x .address → ⊥)
 
 sound-change : (m : Map) (s : Lent) (a v : ℕ) → takes m s a ≡ true → SoundChange m s (changed m s a v)
 unfolding changed targetIn
 sound-change m s a v h = record { place = refl; taken = h }
+
+-- the second address is another one
+second-apart : (a b : ℕ) → secondAddress a ≡ At b → b ≡ a → ⊥
+second-apart a b n e = let k : b ≡ a + 1 = reached-is (a + 1) b n in omega arith
+
+sound-two : (m : Map) (s : Lent) (a v b x : ℕ) → takes m s a ≡ true → takes m s b ≡ true → secondAddress a ≡ At b → Sound m s (Two (changed m s a v) (changed m s b x))
+unfolding changed
+sound-two m s a v b x h k n = (sound-change m s a v h, sound-change m s b x k, second-apart a b n)
 
 -- the changes of a decision that is known
 sound-as : (m : Map) (s : Lent) (d : Decision) (r : Stored) (c : Changes) → d ≡ decision r c → Sound m s c → Sound m s (d .changes)
@@ -177,7 +187,26 @@ module _ (m : Map) (s : Lent) (a : ℕ) where
       (λ h. sound-as m s (decisionOn m s a w) stored.Failed Nothing (word-failed m s a w h) tt)
       (λ h n. sound-as m s (decisionOn m s a w) (stored.Refused AddressOverflow) Nothing (word-past m s a w h n) tt)
       (λ h b n k. sound-as m s (decisionOn m s a w) stored.Failed (One (changed m s a (lowOf w))) (word-low m s a w h b n k) (sound-change m s a (lowOf w) h))
-      (λ h b n k. sound-as m s (decisionOn m s a w) stored.Done (Two (changed m s a (lowOf w)) (changed m s b (highOf w))) (word-both m s a w h b n k) (sound-change m s a (lowOf w) h, sound-change m s b (highOf w) k))
+      (λ h b n k. sound-as m s (decisionOn m s a w) stored.Done (Two (changed m s a (lowOf w)) (changed m s b (highOf w))) (word-both m s a w h b n k) (sound-two m s a (lowOf w) b (highOf w) h k n))
+
+-- ---- what is made of sound changes: stores at their addresses, over bytes that can be read there
+
+module _ (m : Map) (s : Lent) where
+  -- the byte that a change replaces is the one at its address
+  pub old-byte : (x : Change) → SoundChange m s x → get (x .place) s ≡ readByte m s (x .address)
+  old-byte x h = read-target m s (x .address) (x .byte) (x .place) (h .place) (h .taken)
+
+  pub one-stored : (x : Change) → SoundChange m s x → made (One x) s ≡ storeByte m s (x .address) (x .byte)
+  unfolding made
+  one-stored x h = stored-at m s (x .address) (x .byte) (x .place) (h .place)
+
+  pub two-stored : (x y : Change) → SoundChange m s x → SoundChange m s y
+      → made (Two x y) s ≡ storeByte m (storeByte m s (x .address) (x .byte)) (y .address) (y .byte)
+  unfolding made
+  two-stored x y h k =
+      let u = storeByte m s (x .address) (x .byte) in
+      ap (λ (t : Lent). put (y .place) t (y .byte)) (one-stored x h)
+      ∙ stored-at m u (y .address) (y .byte) (y .place) (k .place ∙ sym (target-lengths m u s (store-lengths m s (x .address) (x .byte)) (y .address)))
 
 -- ---- whatever is made
 

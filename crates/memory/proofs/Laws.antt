@@ -2,21 +2,22 @@
 -- having two bytes and a store changing no length. Assumes nothing.
 use mathlib.Core.Path.{_≡_, refl, sym, ap, _∙_}
 use mathlib.Core.Bool.{Bool, true, false, not, _&&_, _||_}
-use Prim.Native.Nat.{ℕ}
+use Prim.Native.Nat.{ℕ, _<_}
 use lib.Dec.{ltb}
-use lib.ListN.{length}
+use lib.ListN.{length, getD}
 use Rattle.map.specs.Tables.{any}
 use Rattle.map.specs.Regions.{protected}
 use Rattle.map.specs.Devices.{deviceCovers, usedDevices}
-use Rattle.map.specs.Places.{somewhere}
+use Rattle.map.specs.Places.{place, somewhere}
 use Rattle.map.specs.Valid.{valid}
 use Rattle.map.specs.declared.Map.{Map}
 use Rattle.map.specs.declared.Place.{Place}
+use Rattle.map.specs.declared.Place.the-variants.{Linear}
 use Rattle.map.proofs.PlaceLaws.{SameByte, Within}
 use Rattle.map.proofs.Laws.{place-within, place-one, target-place, takes-rule, valid-length}
 use Rattle.memory.specs.Bytes.{Lent, get, put, placeIn, targetIn, readByte, takes, storeByte}
 use Rattle.memory.specs.declared.Read.the-variants.{Byte}
-use Rattle.memory.proofs.ByteLaws.{put-mem, put-dev, get-put, get-put-other, put-back, put-none, get-some}
+use Rattle.memory.proofs.ByteLaws.{put-mem, put-dev, get-put, get-put-other, put-back, put-none, get-some, get-linear}
 
 -- the same numbers of bytes are lent
 pub record SameLengths (s t : Lent) : Type 0 where
@@ -55,6 +56,11 @@ placed-within m s a = place-within m (length (s .mem)) (length (s .dev)) a
 pub placed-one : (m : Map) (s : Lent) (a b : ℕ) → SameByte (placeIn m s a) (placeIn m s b) → a ≡ b
 unfolding placeIn
 placed-one m s a b q = place-one m (length (s .mem)) (length (s .dev)) a b q
+
+-- a linear byte is read there
+pub read-placed : (m : Map) (s : Lent) (a : ℕ) → place m (length (s .mem)) (length (s .dev)) a ≡ Linear a → a < length (s .mem) → readByte m s a ≡ Byte (getD (s .mem) a 0) (Linear a)
+unfolding readByte placeIn
+read-placed m s a e h = rw e (get-linear s a h)
 
 -- ---- stores
 
@@ -101,6 +107,11 @@ module _ (m : Map) (s : Lent) (a v : ℕ) where
   taken-place : takes m s a ≡ true → targetIn m s a ≡ placeIn m s a
   unfolding takes targetIn placeIn
   taken-place h = target-place m (length (s .mem)) (length (s .dev)) a h
+
+  -- reading at the place that takes a store is reading at the address
+  pub read-target : (p : Place) → p ≡ targetIn m s a → takes m s a ≡ true → get p s ≡ readByte m s a
+  unfolding readByte
+  read-target p e h = ap (λ (q : Place). get q s) (e ∙ taken-place h)
 
   -- what is read at another address is as before
   pub read-other : (b : ℕ) → (b ≡ a → ⊥) → readByte m (storeByte m s a v) b ≡ readByte m s b

@@ -1,12 +1,12 @@
--- What the crates above may use of a load: lengths stay, valid tables stay valid, and at its end only 13 is left. Assumes nothing.
-use mathlib.Core.Path.{_≡_, _∙_}
-use mathlib.Core.Bool.{Bool, true, false, _&&_}
+-- What the crates above may use of a load: lengths stay, valid tables stay valid, at its end only 13 is left, and its answer says whether it began. Assumes nothing.
+use mathlib.Core.Path.{_≡_, refl, sym, ap, _∙_}
+use mathlib.Core.Bool.{Bool, true, false, not, _&&_}
 use mathlib.Core.List.{List, [], _∷_}
 use Prim.Native.Nat.{ℕ, _+_}
 use native.Mathlib.Omega.{arith}
 use lib.ListN.{length}
-use borrow.Author.Tests.{leb-true, ltb-true, le-ltb, lt-leb}
-use lib.Dec.{leb, ltb}
+use borrow.Author.Tests.{leb-true, leb-false, ltb-true, ltb-false, le-leb, lt-leb, lt-ltb, le-ltb}
+use lib.Dec.{leb, ltb, eqb}
 use Rattle.base.specs.Choice.{cond}
 use Rattle.base.specs.Words.{doubled}
 use Rattle.map.specs.Tables.{any}
@@ -31,6 +31,10 @@ words-lengths m (w ∷ rest) s i = go (isDone (wordStored m s (doubled i))) (wor
     go : (t : Bool) → SameLengths (storeWords m (storeWord m s (doubled i) w) (i + 1) rest .bytes) (storeWord m s (doubled i) w) → SameLengths (cond t (storeWords m (storeWord m s (doubled i) w) (i + 1) rest) (words false (storeWord m s (doubled i) w)) .bytes) s
     go true r = then-lengths r (word-lengths m s (doubled i) w)
     go false r = word-lengths m s (doubled i) w
+
+-- a load's answer, other than 1, that is past 16 and 14
+abbrev pub past : ℕ → Bool
+past n = not (eqb n 16) && not (eqb n 14)
 
 module _ (m : Map) (s : Lent) (program : List ℕ) where
   -- a load changes no length
@@ -61,6 +65,11 @@ module _ (m : Map) (s : Lent) (program : List ℕ) where
         go true = region-kept m e (s .dev) v (region 0 (length program))
         go false = v
 
+  -- a load that does not begin changes nothing
+  pub load-nothing : begins m s program ≡ false → (loadMap m s program ≡ m) × (loadBytes m s program ≡ s)
+  unfolding loadMap loadBytes
+  load-nothing h = (rw h, rw h)
+
   -- once every word is stored, the answer is 13 where the new region overlaps one, else accepted
   pub load-last : begins m s program ≡ true → storeWords m s 0 program .all ≡ true → loadNumber m s program ≡ cond (any (regionsOverlap (region 0 (length program))) (usedRegions m)) 13 0
   unfolding loadNumber begins
@@ -69,3 +78,25 @@ module _ (m : Map) (s : Lent) (program : List ℕ) where
       let h = leb-true (length program) 32768 (second (valid m (s .dev)) (leb (length program) 32768) (ltb (m .regions) 8) b) in
       let f = ltb-true (m .regions) 8 (third (valid m (s .dev)) (leb (length program) 32768) (ltb (m .regions) 8) b) in
       rw (v, le-ltb 32768 (length program) h, lt-leb 8 (m .regions) f, g) (region-last m (region 0 (length program)) (omega arith) f)
+
+  -- of a valid map: it begins exactly where the answer is neither 16 nor 14, since none of the later answers is
+  pub begins-by-number : valid m (s .dev) ≡ true → begins m s program ≡ past (loadNumber m s program)
+  unfolding loadNumber begins
+  begins-by-number v = go (leb (length program) 32768) (ltb (m .regions) 8) (storeWords m s 0 program .all) refl refl refl
+    where
+      last : (t : Bool) → past (cond t 13 0) ≡ true
+      last true = refl
+      last false = refl
+
+      go : (t u w : Bool) → leb (length program) 32768 ≡ t → ltb (m .regions) 8 ≡ u → storeWords m s 0 program .all ≡ w
+          → begins m s program ≡ past (loadNumber m s program)
+      go false u w a b g = rw (v, lt-ltb 32768 (length program) (leb-false (length program) 32768 a), a)
+      go true false w a b g =
+          let h = le-ltb 32768 (length program) (leb-true (length program) 32768 a) in
+          rw (v, h, le-leb 8 (m .regions) (ltb-false (m .regions) 8 b), a, b)
+      go true true false a b g =
+          let h = le-ltb 32768 (length program) (leb-true (length program) 32768 a) in
+          rw (v, h, lt-leb 8 (m .regions) (ltb-true (m .regions) 8 b), a, b, g)
+      go true true true a b g =
+          let y : begins m s program ≡ true = rw (v, a, b) in
+          y ∙ sym (ap past (load-last y g) ∙ last (any (regionsOverlap (region 0 (length program))) (usedRegions m)))

@@ -1,23 +1,38 @@
--- What the crates above may use of words: what becomes of a word's store in each case, and that it is read back. Assumes nothing.
+-- What the crates above may use of words: where a linear one is read, what becomes of a word's store in each case, and that it is read back. Assumes nothing.
 use mathlib.Core.Path.{_≡_, _∙_}
 use mathlib.Core.Bool.{Bool, true, false}
-use Prim.Native.Nat.{ℕ, _+_}
+use Prim.Native.Nat.{ℕ, _+_, _<_}
 use native.Mathlib.Omega.{arith}
+use lib.ListN.{length, getD}
 use Rattle.base.specs.Addresses.{secondAddress}
 use Rattle.base.specs.Choice.{cond}
 use Rattle.base.specs.Words.{wordOf, lowOf, highOf}
 use Rattle.base.specs.declared.addresses.Reached.{Reached}
 use Rattle.base.specs.declared.addresses.Reached.the-variants.{At, Past}
 use Rattle.base.specs.declared.refusals.Refusal.the-variants.{AddressOverflow}
-use Rattle.base.proofs.AddressLaws.{reached-is}
+use Rattle.base.proofs.AddressLaws.{reached-at, reached-is}
+use Rattle.map.specs.Places.{linearWord}
 use Rattle.map.specs.declared.Map.{Map}
+use Rattle.map.specs.declared.Place.the-variants.{Linear}
+use Rattle.map.proofs.Laws.{linear-second, linear-low, linear-high, linear-below}
 use Rattle.memory.specs.Bytes.{Lent, placeIn, readByte, takes, storeByte}
 use Rattle.memory.specs.Words.{joined, readHigh, readWord, byteStored, highStored, wordStored, storeBoth, storeWord}
 use Rattle.memory.specs.declared.Read.the-variants.{Byte}
 use Rattle.memory.specs.declared.Stored.{Stored}
 use Rattle.memory.specs.declared.Stored.the-variants as stored
 use Rattle.memory.specs.declared.WordRead.the-variants as word
-use Rattle.memory.proofs.Laws.{SameLengths, same-lengths, then-lengths, store-lengths, takes-kept, refused-store, read-other, read-own}
+use Rattle.memory.proofs.Laws.{SameLengths, same-lengths, then-lengths, read-placed, store-lengths, takes-kept, refused-store, read-other, read-own}
+
+-- a word of two linear bytes is read there
+pub read-linear : (m : Map) (s : Lent) (a : ℕ) → linearWord m (length (s .mem)) a ≡ true
+    → readWord m s a ≡ word.Word (wordOf (getD (s .mem) a 0) (getD (s .mem) (a + 1) 0))
+unfolding readWord readHigh joined
+read-linear m s a e =
+    let n = length (s .mem) in
+    let k : a + 1 < n = linear-below m n a e in
+    let low : readByte m s a ≡ Byte (getD (s .mem) a 0) (Linear a) = read-placed m s a (linear-low m n a e (length (s .dev))) (omega arith) in
+    let high : readByte m s (a + 1) ≡ Byte (getD (s .mem) (a + 1) 0) (Linear (a + 1)) = read-placed m s (a + 1) (linear-high m n a e (length (s .dev))) k in
+    rw (low, reached-at (a + 1) (linear-second m n a e), high)
 
 -- what becomes of a word's store, and the bytes after it
 pub record WordStore (m : Map) (s : Lent) (a w : ℕ) (r : Stored) (t : Lent) : Type 0 where

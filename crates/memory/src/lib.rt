@@ -16,6 +16,7 @@ use map::Place;
 pub use program::write_program;
 pub use words::decide_byte;
 pub use words::decide_word;
+pub use words::fetch_word;
 pub use words::make;
 pub use words::read_word;
 pub use words::store_word;

@@ -37,6 +37,19 @@ pub fn read_word(m: Map, mem: &[u8], dev: &[u8], a: u16) -> WordRead
     }
 }
 
+// The same, faster where both bytes are linear: they are read at once.
+pub fn fetch_word(m: Map, mem: &[u8], dev: &[u8], a: u16) -> WordRead
+    ensures { λ r. ⌜ r ≡ readWord m (lent (now (mem .entry)) (now (dev .entry))) a ⌝ }
+{
+    if map::is_linear_word(m, mem.len(), a) {
+        let i = a as usize;
+        let low = mem[i];
+        let high = mem[i + 1];
+        return WordRead::Word(base::word(low, high));
+    }
+    read_word(m, mem, dev, a)
+}
+
 // What storing a byte comes to, with mem bytes of linear memory and dev bytes in the device buffer.
 pub fn decide_byte(m: Map, mem: usize, dev: usize, a: u16, v: u8) -> Decision
     ensures { λ d. ⌜ d ≡ byteDecision m mem dev a v ⌝ }
