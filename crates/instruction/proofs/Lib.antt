@@ -1,5 +1,6 @@
 pub mod CodeLaws
 pub mod EncodedLaws
 pub mod DecodedLaws
+pub mod OpcodeLaws
 pub mod RoundTrip
 pub mod AnswerLaws

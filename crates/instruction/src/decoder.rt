@@ -1,9 +1,12 @@
 // What a word says. The low four bits pick an arm of the table; each function below is one arm, or one kind of field.
+// The kinds of field are public for the machine, which acts on a word without making an Instruction of it.
 ghost use mathlib.Core.Path.{_≡_};
 ghost use Prim.Native.Nat.{_<_, _≤_};
+ghost use Rattle.base.specs.Choice.{cond};
 ghost use Rattle.base.specs.Told.{is};
 ghost use Rattle.fields.specs.Fields.{fieldOf};
-ghost use Rattle.instruction.specs.Decode.{told, registerAt, bitAt, operandAt, arm, decode};
+ghost use Rattle.instruction.specs.Decode.{told, registerAt, bitAt, operandAt, conditional, arm, decode};
+ghost use Rattle.instruction.specs.declared.Instruction.the-variants.{Jmp, CondJmp};
 use crate::Decoded;
 use crate::Instruction;
 use crate::Operand;
@@ -16,14 +19,14 @@ use base::Refusal;
 use fields::field;
 
 // The register in the three bits from `at` on.
-fn register_at(w: u16, at: usize) -> Register
+pub fn register_at(w: u16, at: usize) -> Register
     requires { ⌜ at < 16 ⌝ }
     ensures { λ r. ⌜ r ≡ registerAt w at ⌝ }
 {
     register_of(field(w, at, 3))
 }
 
-fn bit_at(w: u16, at: usize) -> bool
+pub fn bit_at(w: u16, at: usize) -> bool
     requires { ⌜ at < 16 ⌝ }
     ensures { λ r. ⌜ r ≡ bitAt w at ⌝ }
 {
@@ -31,7 +34,7 @@ fn bit_at(w: u16, at: usize) -> bool
 }
 
 // A field of at most eight bits, which a byte holds.
-fn byte_at(w: u16, at: usize, width: usize) -> u8
+pub fn byte_at(w: u16, at: usize, width: usize) -> u8
     requires { ⌜ (at < 16) × (width ≤ 8) ⌝ }
     ensures { λ r. ⌜ r ≡ fieldOf w at width ⌝ }
 {
@@ -40,7 +43,7 @@ fn byte_at(w: u16, at: usize, width: usize) -> u8
 
 // The operand whose mode bit is at `at`: a register in the three bits after it, or an immediate in the `width` bits
 // after it.
-fn operand_at(w: u16, at: usize, width: usize) -> Operand
+pub fn operand_at(w: u16, at: usize, width: usize) -> Operand
     requires { ⌜ (at < 15) × (width < 16) ⌝ }
     ensures { λ r. ⌜ r ≡ operandAt w at width ⌝ }
 {
@@ -90,13 +93,23 @@ fn ldr_str(w: u16) -> Instruction
 }
 
 // 5 in register mode is a Jmp, as document 01 has it: no word says a CondJmp to a register. Only this function knows.
+pub fn jumps_always(o: Operand) -> bool
+    ensures { λ r. ⌜ conditional o ≡ cond r (Jmp o) (CondJmp o) ⌝ }
+{
+    match o {
+        Operand::Reg(_) => true,
+        Operand::Imm(_) => false,
+    }
+}
+
 fn cond_jmp(w: u16) -> Instruction
     ensures { λ r. ⌜ is r ≡ arm w 5 ⌝ }
 {
     let o = operand_at(w, 4, 11);
-    match o {
-        Operand::Reg(_) => Instruction::Jmp(o),
-        Operand::Imm(_) => Instruction::CondJmp(o),
+    if jumps_always(o) {
+        Instruction::Jmp(o)
+    } else {
+        Instruction::CondJmp(o)
     }
 }
 

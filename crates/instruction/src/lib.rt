@@ -5,8 +5,16 @@ mod encoder;
 mod widths;
 
 use base::Refusal;
+pub use codes::arith_of;
+pub use codes::arithmetic_of;
+pub use codes::compare_of;
 pub use codes::register_code;
+pub use decoder::bit_at;
+pub use decoder::byte_at;
 pub use decoder::decode;
+pub use decoder::jumps_always;
+pub use decoder::operand_at;
+pub use decoder::register_at;
 pub use encoder::encode;
 pub use widths::fits;
 

@@ -7,19 +7,16 @@ use Rattle.instruction.proofs.decoder.cond_jmp.Tie as tie
 operand-at-requires : tie.Need-operand-at-requires
 operand-at-requires c κs = search needs
 
-enum-told : tie.Need-enum-told
-enum-told c = search needs
-
-enum-told-2 : tie.Need-enum-told-2
-enum-told-2 c = search needs
+jumps-always-requires : tie.Need-jumps-always-requires
+jumps-always-requires c κs = search needs
 
 returns : tie.Need-returns
 unfolding arm arms
-returns c = rw (← (c .before .before .operand-at .ensures), c .enum-told .given .1)
+returns c = rw (← (c .before .before .operand-at .ensures), c .before .jumps-always .ensures, c .if1 .taken)
 
 returns-2 : tie.Need-returns-2
 unfolding arm arms
-returns-2 c = rw (← (c .before .before .operand-at .ensures), c .enum-told2 .given .1)
+returns-2 c = rw (← (c .before .before .operand-at .ensures), c .before .jumps-always .ensures, c .if1 .left)
 
 pub cond-jmp-spec : {M : Type 1} → statement M
-cond-jmp-spec = tie.close (tie.spec operand-at-requires enum-told enum-told-2 returns returns-2)
+cond-jmp-spec = tie.close (tie.spec operand-at-requires jumps-always-requires returns returns-2)
