@@ -2,6 +2,7 @@
 -- validity, since a plan is made by memory alone. Assumes nothing.
 use mathlib.Core.Path.{_≡_, refl, sym, ap, _∙_}
 use mathlib.Core.Bool.{Bool, true, false}
+use mathlib.Core.List.{List}
 use Prim.Native.Nat.{ℕ, _+_, _≤_}
 use lib.ListN.{length}
 use Rattle.base.specs.Choice.{cond}
@@ -14,7 +15,7 @@ use Rattle.instruction.specs.declared.Register.the-variants.{PC}
 use Rattle.instruction.specs.declared.Instruction.the-variants.{Noop}
 use Rattle.map.proofs.Laws.{valid-length}
 use Rattle.memory.specs.Bytes.{Lent}
-use Rattle.memory.specs.Words.{readWord}
+use Rattle.memory.specs.Words.{readWord, made}
 use Rattle.memory.specs.declared.Changes.the-variants.{Nothing}
 use Rattle.memory.specs.declared.WordRead.the-variants as word
 use Rattle.memory.proofs.Laws.{SameLengths, same-lengths}
@@ -22,12 +23,17 @@ use Rattle.memory.proofs.Decisions.{made-lengths, nothing-made}
 use Rattle.machine.specs.Answers.{State, Continue, Debug, Stop}
 use Rattle.machine.specs.Registers.{get, put, flag}
 use Rattle.machine.specs.Acts.{noop, act}
-use Rattle.machine.specs.Plan.{plans, raised, finished, decoded, fetched, plan}
+use Rattle.machine.specs.Plan.{Planned, plans, raised, finished, decoded, fetched, plan}
 use Rattle.machine.specs.Step.{After, after, committed, step}
 use Rattle.machine.specs.States.{valid, with}
 use Rattle.machine.specs.declared.Machine.{Machine}
 use Rattle.machine.proofs.PlanLaws.{plan-refused}
 use Rattle.machine.proofs.RegisterLaws.{get-own}
+
+-- validity looks at the tables, and at how many device bytes are lent
+pub valid-same : (m k : Machine) (d e : List ℕ) → m .map ≡ k .map → length d ≡ length e → valid m d ≡ valid k e
+unfolding valid
+valid-same m k d e p q = rw p (valid-length (k .map) d e q)
 
 module _ (m : Machine) (b : Lent) where
   -- ---- a step, valid state or not
@@ -39,6 +45,11 @@ module _ (m : Machine) (b : Lent) where
   pub valid-step : valid m (b .dev) ≡ true → step m b ≡ committed m b (plan m b)
   unfolding step
   valid-step h = rw h
+
+  -- what is planned, committed
+  pub committed-as : (p : Planned) → committed m b p ≡ after (p .answer) (with m (p .registers)) (made (p .changes) b)
+  unfolding committed
+  committed-as p = refl
 
   -- ---- what is not accepted changes nothing
 
@@ -88,8 +99,7 @@ module _ (m : Machine) (b : Lent) where
 
   -- a valid state stays valid
   pub step-valid : valid m (b .dev) ≡ true → valid (step m b .machine) (step m b .bytes .dev) ≡ true
-  unfolding valid
-  step-valid h = rw step-map (valid-length (m .map) (step m b .bytes .dev) (b .dev) (step-lengths .dev) ∙ h)
+  step-valid h = valid-same (step m b .machine) m (step m b .bytes .dev) (b .dev) step-map (step-lengths .dev) ∙ h
 
   -- ---- Noop raises PC, and does nothing else
 

@@ -7,8 +7,14 @@ use lib.ListN.{set, replicate}
 use Rattle.base.specs.Choice.{cond}
 use Rattle.map.specs.Entries.{emptyMap}
 use Rattle.map.specs.Valid as tables
+use Rattle.map.specs.declared.Map.{Map}
 use Rattle.machine.specs.declared.Machine.{Machine}
+use Rattle.machine.specs.declared.Mode.{Mode}
 use Rattle.machine.specs.declared.Registers.{Registers}
+
+-- the machine with these parts
+abbrev pub machine : Registers → Mode → Map → Machine
+machine s mode map = record { registers = s; mode = mode; map = map }
 
 -- of a machine and the bytes of its device buffer
 unfoldable pub valid : Machine → List ℕ → Bool

@@ -7,6 +7,7 @@ mod plans;
 mod states;
 mod steps;
 mod transfers;
+mod words;
 
 use base::Answer;
 use base::Refusal;
@@ -16,6 +17,7 @@ pub use states::new;
 pub use states::set_register;
 pub use states::valid;
 pub use steps::commit;
+pub use steps::plan_of;
 pub use steps::plan_step;
 pub use steps::step;
 

@@ -10,8 +10,8 @@ use Rattle.instruction.specs.declared.Register.the-variants.{PC}
 use Rattle.machine.specs.Registers.{get, flag}
 use Rattle.machine.specs.Plan.{fetched, plan}
 use borrow.Author.Needs.{needs}
-use Rattle.machine.proofs.steps.plan_step.Statement.{statement}
-use Rattle.machine.proofs.steps.plan_step.Tie as tie
+use Rattle.machine.proofs.steps.plan_of.Statement.{statement}
+use Rattle.machine.proofs.steps.plan_of.Tie as tie
 
 flag-requires : tie.Need-flag-requires
 flag-requires c κs = search needs
@@ -19,14 +19,14 @@ flag-requires c κs = search needs
 returns : tie.Need-returns
 unfolding plan
 returns c =
-    let f : flag (c .before .before .before .before .before .args .m .registers) 0 ≡ true = sym (c .before .flag .ensures) ∙ c .if1 .taken in
+    let f : flag (c .before .before .before .before .args .s) 0 ≡ true = sym (c .before .flag .ensures) ∙ c .if1 .taken in
     rw f
 
 get-requires : tie.Need-get-requires
 get-requires c κs = search needs
 
-read-word-requires : tie.Need-read-word-requires
-read-word-requires c κs = search needs
+fetch-word-requires : tie.Need-fetch-word-requires
+fetch-word-requires c κs = search needs
 
 enum-known-w : tie.Need-enum-known-w
 enum-known-w c = search needs
@@ -49,41 +49,41 @@ refused-requires-2 c κs = search needs
 returns-2 : tie.Need-returns-2
 unfolding plan fetched
 returns-2 c =
-    let x = c .before .before .before .before .before .before .before .before .before .before .before .args in
+    let x = c .before .before .before .before .before .before .before .before .before .before .args in
     let b = lent (now (x .mem)) (now (x .dev)) in
-    let s = x .m .registers in
+    let s = x .s in
     let f : flag s 0 ≡ false = sym (c .before .before .before .before .before .before .before .flag .ensures) ∙ c .before .before .before .before .before .before .if1 .left in
-    let e : readWord (x .m .map) b (get s PC) ≡ Word (c .before .before .w .given .0 .0) = ap (λ (a : ℕ). readWord (x .m .map) b a) (sym (c .before .before .before .before .before .get .ensures)) ∙ sym (c .before .before .before .before .read-word .ensures) ∙ c .before .before .w .given .1 in
+    let e : readWord (x .map) b (get s PC) ≡ Word (c .before .before .w .given .0 .0) = ap (λ (a : ℕ). readWord (x .map) b a) (sym (c .before .before .before .before .before .get .ensures)) ∙ sym (c .before .before .before .before .fetch-word .ensures) ∙ c .before .before .w .given .1 in
     c .act-on-word .ensures ∙ rw (f, e)
 
 returns-3 : tie.Need-returns-3
 unfolding plan fetched
 returns-3 c =
-    let x = c .before .before .before .before .before .before .before .before .before .before .args in
+    let x = c .before .before .before .before .before .before .before .before .before .args in
     let b = lent (now (x .mem)) (now (x .dev)) in
-    let s = x .m .registers in
+    let s = x .s in
     let f : flag s 0 ≡ false = sym (c .before .before .before .before .before .before .flag .ensures) ∙ c .before .before .before .before .before .if1 .left in
-    let e : readWord (x .m .map) b (get s PC) ≡ NoWord = ap (λ (a : ℕ). readWord (x .m .map) b a) (sym (c .before .before .before .before .get .ensures)) ∙ sym (c .before .before .before .read-word .ensures) ∙ c .before .enum-told .given .1 in
+    let e : readWord (x .map) b (get s PC) ≡ NoWord = ap (λ (a : ℕ). readWord (x .map) b a) (sym (c .before .before .before .before .get .ensures)) ∙ sym (c .before .before .before .fetch-word .ensures) ∙ c .before .enum-told .given .1 in
     c .refused .ensures ∙ rw (f, e)
 
 returns-4 : tie.Need-returns-4
 unfolding plan fetched
 returns-4 c =
-    let x = c .before .before .before .before .before .before .before .before .before .before .before .args in
+    let x = c .before .before .before .before .before .before .before .before .before .before .args in
     let b = lent (now (x .mem)) (now (x .dev)) in
-    let s = x .m .registers in
+    let s = x .s in
     let f : flag s 0 ≡ false = sym (c .before .before .before .before .before .before .before .flag .ensures) ∙ c .before .before .before .before .before .before .if1 .left in
-    let e : readWord (x .m .map) b (get s PC) ≡ Refused (c .before .before .r .given .0 .0) = ap (λ (a : ℕ). readWord (x .m .map) b a) (sym (c .before .before .before .before .before .get .ensures)) ∙ sym (c .before .before .before .before .read-word .ensures) ∙ c .before .before .r .given .1 in
+    let e : readWord (x .map) b (get s PC) ≡ Refused (c .before .before .r .given .0 .0) = ap (λ (a : ℕ). readWord (x .map) b a) (sym (c .before .before .before .before .before .get .ensures)) ∙ sym (c .before .before .before .before .fetch-word .ensures) ∙ c .before .before .r .given .1 in
     c .refused2 .ensures ∙ rw (f, e)
 
-pub plan-step-spec : {M : Type 1} → statement M
-plan-step-spec =
+pub plan-of-spec : {M : Type 1} → statement M
+plan-of-spec =
     tie.close
     (tie.spec
     flag-requires
     returns
     get-requires
-    read-word-requires
+    fetch-word-requires
     enum-known-w
     act-on-word-requires
     enum-told

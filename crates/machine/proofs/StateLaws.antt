@@ -1,0 +1,24 @@
+-- A machine is valid where its tables are, and setting a register leaves them. Assumes nothing.
+use Prim.Native.Nat.{ℕ}
+use mathlib.Core.Path.{_≡_, refl}
+use mathlib.Core.Bool.{Bool, true, false}
+use mathlib.Core.List.{List}
+use lib.Dec.{eqb}
+use lib.ListN.{set}
+use Rattle.base.specs.Choice.{cond}
+use Rattle.map.specs.Valid as tables
+use Rattle.machine.specs.States.{valid, with, setNumber, setMachine}
+use Rattle.machine.specs.declared.Machine.{Machine}
+
+module _ (m : Machine) (dev : List ℕ) where
+  pub valid-tables : valid m dev ≡ tables.valid (m .map) dev
+  unfolding valid
+  valid-tables = refl
+
+  pub set-tables : (number value : ℕ) → setMachine m dev number value .map ≡ m .map
+  unfolding setMachine
+  set-tables number value = go (eqb (setNumber m dev number) 0)
+    where
+      go : (t : Bool) → cond t (with m (record { value = set (m .registers .value) number value })) m .map ≡ m .map
+      go true = refl
+      go false = refl
