@@ -1,0 +1,11 @@
+pub mod StateLaws
+pub mod StepLaws
+pub mod UndoLaws
+pub mod BackLaws
+pub mod BackCases
+pub mod Demand
+pub mod TakenLaws
+pub mod RunTurns
+pub mod RunLaws
+pub mod ReturnLaws
+pub mod MarkedLaw

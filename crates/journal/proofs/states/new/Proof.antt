@@ -1,0 +1,13 @@
+-- It is the definition's record. Assumes nothing.
+use borrow.Author.Needs.{needs}
+use Rattle.journal.proofs.states.new.Statement.{statement}
+use Rattle.journal.proofs.states.new.Tie as tie
+
+new-requires : tie.Need-new-requires
+new-requires c κs = search needs
+
+returns : tie.Need-returns
+returns c = rw (c .new .ensures)
+
+pub new-spec : {M : Type 1} → statement M
+new-spec = tie.close (tie.spec new-requires returns)

@@ -1,0 +1,6 @@
+pub mod States
+pub mod Step
+pub mod Back
+pub mod Run
+pub mod Demand
+pub mod Marked
