@@ -8,11 +8,14 @@ mod assembling;
 mod fields;
 mod host;
 mod instructions;
+mod journal;
+mod journal_part;
 mod language;
 mod machine_part;
 mod memory_part;
 mod own;
 mod panics;
+mod past;
 mod pieces;
 mod quiet;
 mod undo;
@@ -50,6 +53,11 @@ const COMMANDS: &[(&[u8], Command)] = &[
     // machine.rs
     (b"set", machine_part::set),
     (b"step", machine_part::step),
+    // run and journal, over the step of machine.rs
+    (b"cursor", journal_part::cursor),
+    (b"run", journal_part::run),
+    (b"back", journal_part::back),
+    (b"forget", journal_part::forget),
     // the decoder of machine.rs, encoder and printer of asm/mod.rs
     (b"decode", instructions::decode),
     (b"print", instructions::print),

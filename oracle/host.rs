@@ -1,7 +1,9 @@
 //! What the host keeps: the lent bytes, both tables, and the Rust's memory that is built over them when it is asked.
 use crate::answers::Answer;
+use crate::journal::{self, Cursor, Old};
 use crate::own::{self, Damaged};
 use crate::panics::caught;
+use crate::past::{Past, Whole};
 use crate::pieces::{self, Shared};
 use rust16vm::memory::Addressable;
 use std::cell::RefCell;
@@ -50,11 +52,11 @@ pub struct Host {
     pub journal: Vec<u8>,
     pub debug: u64,
     pub registers: [u16; 8],
-    pub next: u16,
-    pub held: u16,
+    pub cursor: Cursor,
+    pub past: Past,
     pub regions: Table,
     pub devices: Table,
-    valid: bool,
+    has_valid_tables: bool,
     /// The Rust's memory; `None` where bytes or tables have changed since it was built.
     built: Option<Shared>,
 }
@@ -68,29 +70,29 @@ impl Host {
             journal: filled(journal, seed),
             debug,
             registers: [0; 8],
-            next: 0,
-            held: 0,
+            cursor: Cursor::default(),
+            past: Past::none(),
             regions: Table::default(),
             devices: Table::default(),
-            valid: true,
+            has_valid_tables: true,
             built: None,
         }
     }
 
     /// Whether the state is valid (01). Where it is not, the Rust has nothing to say.
     pub fn valid(&self) -> bool {
-        self.valid
+        self.has_valid_tables && self.cursor.valid(journal::room(&self.journal))
     }
 
-    /// An answer on the state as it is: the Rust's word only where the state is valid.
+    /// An answer of the memory part, which is below the journal: the Rust's word only where the tables are valid.
     pub fn answer(&self, text: impl Into<String>) -> Answer {
-        if self.valid { Answer::rust(text) } else { Answer::own(text) }
+        if self.has_valid_tables { Answer::rust(text) } else { Answer::own(text) }
     }
 
     /// Asks the Rust's memory, or on tables that it cannot be given the driver's own reading of them. The error is
     /// the answer that a panic stands for.
     pub fn asked<T>(&mut self, question: impl FnOnce(&mut dyn Addressable) -> T) -> Result<T, String> {
-        if self.valid {
+        if self.has_valid_tables {
             let mut rust = self.rust();
             return caught(|| question(&mut rust));
         }
@@ -142,7 +144,8 @@ impl Host {
         self.built = None;
         self.regions = regions;
         self.devices = devices;
-        self.valid = own::valid(&self.regions, &self.devices, self.buffer.borrow().len());
+        self.meddled();
+        self.has_valid_tables = own::valid(&self.regions, &self.devices, self.buffer.borrow().len());
     }
 
     pub fn add_region(&mut self, region: Entry) {
@@ -157,10 +160,34 @@ impl Host {
         self.devices.add(device);
     }
 
-    /// Accepted changes of the tables, and every load past 16 and 14, empty the journal.
+    /// An accepted step: these were the registers, these stores were taken, this was the state before.
+    pub fn record(&mut self, registers: [u16; 8], stored: &[Old], before: Option<Whole>) {
+        self.cursor = journal::record(&mut self.journal, self.cursor, registers, stored);
+        if let Some(state) = before {
+            self.past.keep(state, journal::room(&self.journal));
+        }
+        self.past.check(self.cursor.held);
+    }
+
+    /// The state before a step, where there is room for its record.
+    pub fn whole_to_keep(&mut self) -> Option<Whole> {
+        (journal::room(&self.journal) > 0).then(|| self.whole())
+    }
+
+    pub fn whole(&mut self) -> Whole {
+        let device = self.buffer.borrow().clone();
+        Whole { registers: self.registers, memory: self.memory().clone(), device }
+    }
+
+    /// Accepted set-register, protect, device and forget, and every load past 16 and 14, empty the journal. Its bytes stay.
     pub fn empty_journal(&mut self) {
-        self.next = 0;
-        self.held = 0;
+        self.cursor = Cursor::default();
+        self.past = Past::none();
+    }
+
+    /// The host has changed bytes or raw fields by itself.
+    pub fn meddled(&mut self) {
+        self.past = Past::broken(self.cursor.held);
     }
 }
 

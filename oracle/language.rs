@@ -2,6 +2,7 @@
 use crate::answers::Answer;
 use crate::fields::{Fields, JOURNAL, MEMORY, WORD};
 use crate::host::{Host, Table};
+use crate::journal::Cursor;
 
 /// `new MEM DEV JOURNAL DEBUG SEED`
 pub fn new(host: &mut Host, mut fields: Fields) -> Option<Answer> {
@@ -28,6 +29,7 @@ pub fn poke(host: &mut Host, mut fields: Fields) -> Option<Answer> {
         b"journal" => overwrite(&mut host.journal, at, &bytes)?,
         _ => return None,
     }
+    host.meddled();
     Some(Answer::ok())
 }
 
@@ -62,7 +64,7 @@ pub fn state(host: &mut Host, fields: Fields) -> Option<Answer> {
     let memory = adler(host.memory());
     let device = adler(&host.buffer.borrow());
     let journal = adler(&host.journal);
-    let Host { debug, next, held, .. } = host;
+    let Host { debug, cursor: Cursor { next, held }, .. } = host;
     let line = format!("{registers} {debug} {regions} {devices} {next} {held} {memory} {device} {journal}");
     Some(host.answer(line))
 }

@@ -16,6 +16,7 @@ pub fn regs(host: &mut Host, mut fields: Fields) -> Option<Answer> {
     }
     fields.end()?;
     host.registers = values;
+    host.meddled();
     Some(Answer::ok())
 }
 
@@ -38,24 +39,34 @@ pub fn set(host: &mut Host, mut fields: Fields) -> Option<Answer> {
     Some(Answer::ok())
 }
 
-/// `step`: 1, then all is the Rust's. Where it panics or errs, registers and bytes are put back as they were.
+/// `step`: 1, then all is the Rust's.
 pub fn step(host: &mut Host, fields: Fields) -> Option<Answer> {
     fields.end()?;
     if !host.valid() {
         return Some(Answer::own(no(1)));
     }
+    Some(Answer::rust(step_text(advance(host))))
+}
+
+/// One step of the Rust from a valid state, recorded where it is accepted. Where it panics or errs, registers and bytes are put
+/// back as they were; the error is the answer that this stands for.
+pub fn advance(host: &mut Host) -> Result<State, String> {
+    let before = host.whole_to_keep();
     let memory = Undoable::over(host.rust());
     let mut machine = machine_over(host, memory.clone());
     let refused = match caught(|| machine.step()) {
         Ok(Ok(state)) => {
-            host.registers = registers(&machine);
-            return Some(Answer::rust(state_text(state)));
+            let old = std::mem::replace(&mut host.registers, registers(&machine));
+            if state != State::Stop {
+                host.record(old, &memory.replaced(), before);
+            }
+            return Ok(state);
         }
         Ok(Err(error)) => decode_error(&error),
         Err(panic) => panic,
     };
     memory.undo();
-    Some(Answer::rust(refused))
+    Err(refused)
 }
 
 /// The Rust's machine over this memory, with the registers as they are.
@@ -67,10 +78,11 @@ fn machine_over<M: Addressable>(host: &Host, memory: M) -> Machine<M> {
     machine
 }
 
-fn state_text(state: State) -> &'static str {
-    match state {
-        State::Continue => "continue",
-        State::Debug => "debug",
-        State::Stop => "stop",
+pub fn step_text(stepped: Result<State, String>) -> String {
+    match stepped {
+        Ok(State::Continue) => "continue".to_string(),
+        Ok(State::Debug) => "debug".to_string(),
+        Ok(State::Stop) => "stop".to_string(),
+        Err(refused) => refused,
     }
 }

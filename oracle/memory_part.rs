@@ -38,6 +38,7 @@ pub fn put(host: &mut Host, mut fields: Fields) -> Option<Answer> {
     let v = fields.byte()?;
     fields.end()?;
     let stored = host.asked(|memory| memory.write(a, v));
+    host.meddled();
     Some(host.answer(store_text(stored)))
 }
 
@@ -49,6 +50,7 @@ pub fn putw(host: &mut Host, mut fields: Fields) -> Option<Answer> {
     fields.end()?;
     let before = host.asked(|memory| memory.read(a)).ok().flatten();
     let stored = host.asked(|memory| memory.write2(a, w));
+    host.meddled();
     if let (Err(_), Some(low)) = (&stored, before) {
         host.asked(|memory| memory.write(a, low)).ok()?;
     }

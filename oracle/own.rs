@@ -18,12 +18,12 @@ fn size((start, end): Entry) -> usize {
     end.saturating_sub(start) as usize
 }
 
-/// A state is valid if tables hold at most 8, unused entries are zero, ends are in range, no device starts past its
+/// Tables are valid if they hold at most 8, unused entries are zero, ends are in range, no device starts past its
 /// end, no pair overlaps and device sizes fit the device buffer.
 ///
 /// "No pair overlaps" is the Rust's word: it is handed the used entries in their order and must take each. All else
 /// is the driver's own, since the Rust's tables have no counts, no unused entries and no buffer, and it takes a
-/// first region unchecked. (01 asks something of `next` and `held` too, which are 0 in this part and so pass.)
+/// first region unchecked. (What 01 asks of `next` and `held` is in `journal`.)
 pub fn valid(regions: &Table, devices: &Table, room: usize) -> bool {
     sized(regions)
         && sized(devices)

@@ -7,20 +7,26 @@ HERE = os.path.dirname(os.path.abspath(__file__))
 DRIVER = os.path.join(os.path.dirname(HERE), "target", "oracle", "driver")
 
 # The commands of the language so far. A later part adds its own.
-LANGUAGE = ["new", "poke", "regs", "tables"]
+LANGUAGE = ["new", "poke", "regs", "tables", "cursor"]
 MEMORY = ["byte", "word", "put", "putw", "protect", "device", "load", "loadn", "read"]
 MACHINE = ["set", "step", "decode", "print", "encode"]
+JOURNAL = ["run", "back", "forget"]
 ASSEMBLER = ["asm", "asmn", "line", "listing"]
-COMMANDS = LANGUAGE + MEMORY + MACHINE + ASSEMBLER + ["state"]
+COMMANDS = LANGUAGE + MEMORY + MACHINE + JOURNAL + ASSEMBLER + ["state"]
 
-# What is counted apart.
-COUNTED = {"steps": ["step"], "texts": ["asm", "asmn", "listing"], "lines": ["line"]}
+# A move of a walk: what the machine does, and what the host does to it.
+MOVES = JOURNAL + ["step", "set", "protect", "device", "load", "loadn", "put", "putw", "poke", "regs", "tables", "cursor"]
+WALKS = ["moves", "journal-readings", "journal-limits"]
 
-# 01's numbers that these commands can answer.
-NUMBERS = [n for n in range(1, 31) if n not in (10, 11)]
+# What is counted apart. Moves are counted in walks alone.
+COUNTED = {"steps": ["step"], "moves": MOVES, "step-backs": ["back"], "texts": ["asm", "asmn", "listing"], "lines": ["line"]}
 
-# Answers that are a word by themselves.
-ANSWERS = ["ok", "none", "failed", "continue", "debug", "stop", "?"]
+# 01's numbers.
+NUMBERS = range(1, 31)
+
+# What a step answers, and answers that are a word by themselves.
+WENT = ["continue", "debug", "stop"]
+ANSWERS = ["ok", "none", "failed", *WENT, "?"]
 
 
 def fail(words):
@@ -71,7 +77,14 @@ def said(answer):
         return " ".join(answer.split(" ")[:2])
     if answer.startswith("ok "):
         return "ok"
+    if answer.split(" ")[0] in WENT:
+        return answer.split(" ")[0]
     return answer if answer in ANSWERS else "value"
+
+
+def counted(script, command):
+    """What a command of a script of this kind is counted as."""
+    return [name for name, commands in COUNTED.items() if command in commands and (name != "moves" or script in WALKS)]
 
 
 def whose(line, answer):

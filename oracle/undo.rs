@@ -1,5 +1,6 @@
-//! What a step has stored, so that it can be put back: a refusal changes nothing, but the Rust may have stored when it
-//! panics (READINGS 10).
+//! What a step has stored, so that it can be recorded, or put back: a refusal changes nothing, but the Rust may have stored
+//! when it panics (READINGS 10).
+use crate::journal::Old;
 use crate::pieces::Shared;
 use rust16vm::memory::Addressable;
 use std::cell::RefCell;
@@ -9,12 +10,17 @@ use std::rc::Rc;
 #[derive(Clone)]
 pub struct Undoable {
     memory: Shared,
-    old: Rc<RefCell<Vec<(u16, u8)>>>,
+    old: Rc<RefCell<Vec<Old>>>,
 }
 
 impl Undoable {
     pub fn over(memory: Shared) -> Undoable {
         Undoable { memory, old: Rc::default() }
+    }
+
+    /// The stores that were taken, in their order: each address, and the byte that was there. One of an equal byte counts.
+    pub fn replaced(&self) -> Vec<Old> {
+        self.old.borrow().clone()
     }
 
     /// Puts every old byte back, the last first. An address that took a store takes it again.

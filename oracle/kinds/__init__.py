@@ -7,8 +7,11 @@ from . import (
     damaged,
     edges,
     encodings,
+    journal_limits,
+    journal_readings,
     line_shapes,
     lines,
+    moves,
     numbers,
     step_readings,
     steps,
@@ -25,6 +28,7 @@ ENDLESS = {
     "random": walks.blocks,
     "damaged": damaged.blocks,
     "steps": steps.blocks,
+    "moves": moves.blocks,
     "texts": texts.blocks,
     "lines": lines.blocks,
 }
@@ -32,6 +36,8 @@ ENDLESS = {
 # These go once through all that they are about.
 ONCE = {
     "step-readings": step_readings.once,
+    "journal-readings": journal_readings.once,
+    "journal-limits": journal_limits.once,
     "words": words.once,
     "encodings": encodings.once,
     "roots": numbers.roots,

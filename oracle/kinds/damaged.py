@@ -28,10 +28,13 @@ def every_command(rng, machine):
     commands = [command(rng, machine) for command in walks.COMMANDS if command is not walks.new_tables]
     commands += [walks.put_word(rng, machine), walks.read_byte(rng, machine), "read 0 0 0"]
     commands += [steps.any_regs(rng, machine), steps.set_one(rng, machine), steps.set_one(rng, machine), "step", "step"]
+    commands += [f"run {rng.choice([0, 1, 3])}", "back", "back", "forget", f"cursor {rng.choice(['0 0', '0 0', '0 1', '1 2'])}"]
     commands += [f"decode {word(rng)}", f"print {word(rng)} {rng.randrange(20)}", encodings.random_one(rng)]
     commands += [lines.command(rng), asm("strict", 3, 2, texts.one_line(rng)), listing(texts.one_line(rng))]
     commands += [copies("plain", 3, 2, 2, texts.one_line(rng) + "\n", texts.one_line(rng))]
-    bases = commands + [walks.valid_tables(rng, Machine(machine.memory, machine.device)), new(rng, 30, 9), "state"]
+    # a run is left alone: one digit more, and it might not end
+    bases = [command for command in commands if not command.startswith("run")]
+    bases += [walks.valid_tables(rng, Machine(machine.memory, machine.device)), new(rng, 30, 9), "state"]
     commands += [bad_line(rng, rng.choice(bases)) for _ in range(5)]
     rng.shuffle(commands)
     commands.insert(rng.randrange(len(commands)), "state")

@@ -6,7 +6,7 @@ LENGTHS = [0, 1, 2, 255, 256, 65_534, 65_535, 65_536, 65_537, 65_792]
 
 
 def new(rng, memory, device=0, journal=None):
-    """`new` with these lengths. A journal is lent and compared, though nothing of this part writes it."""
+    """`new` with these lengths, in either mode, and a short journal if none is given."""
     if journal is None:
         journal = rng.choice([0, 0, 23, 46, 185])
     return f"new {memory} {device} {journal} {rng.randrange(2)} {rng.randrange(65_536)}"
@@ -80,6 +80,12 @@ class Machine:
         if choice < 0.95:
             return inside(rng.randrange(self.memory + 4))
         return rng.randrange(65_536)
+
+    def takes(self, a):
+        """Whether a store there succeeds."""
+        if any(start <= a < end for start, end in self.devices):
+            return True
+        return a < self.memory and not any(start <= a < start + length for start, length in self.regions)
 
     def protect(self, start, length):
         apart = all(not (s <= start < s + n or start <= s < start + length) for s, n in self.regions)

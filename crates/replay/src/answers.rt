@@ -1,7 +1,9 @@
 // The short answers.
 use crate::output;
 use crate::state::State;
+use crate::state::with_whole;
 use base::Answer;
+use machine::StepAnswer;
 
 pub enum Said {
     Done,
@@ -12,10 +14,9 @@ pub enum Said {
     Bad,
     Refused(u8),
     Number(u16),
-    // What an accepted step, or a halted machine, answers.
-    Continue,
-    Debug,
-    Stop,
+    Stepped(StepAnswer),
+    // A run's last step, and how many were accepted.
+    Ran(StepAnswer, u32),
 }
 
 // What a command that may change the state comes to.
@@ -41,9 +42,31 @@ pub fn changed(state: State, said: Said) -> Outcome {
     Outcome { state, said }
 }
 
+// What an entry of the whole state comes to.
+pub fn after(s: State, q: journal::Changed) -> Outcome {
+    let w = q.state;
+    let answer = q.answer;
+    changed(with_whole(s, w), verdict(answer))
+}
+
 pub fn refused(out: &mut [u8], at: usize, n: u8) -> usize {
     let p = output::text(out, at, b"no ");
     output::decimal(out, p, n as u64)
+}
+
+fn stepped(out: &mut [u8], at: usize, a: StepAnswer) -> usize {
+    match a {
+        StepAnswer::Continue => output::text(out, at, b"continue"),
+        StepAnswer::Debug => output::text(out, at, b"debug"),
+        StepAnswer::Stop => output::text(out, at, b"stop"),
+        StepAnswer::Refused(r) => refused(out, at, base::number(r)),
+    }
+}
+
+fn ran(out: &mut [u8], at: usize, a: StepAnswer, count: u32) -> usize {
+    let p = stepped(out, at, a);
+    let p = output::put(out, p, b' ');
+    output::decimal(out, p, count as u64)
 }
 
 pub fn say(out: &mut [u8], at: usize, said: Said) -> usize {
@@ -54,9 +77,8 @@ pub fn say(out: &mut [u8], at: usize, said: Said) -> usize {
         Said::Bad => output::put(out, at, b'?'),
         Said::Refused(n) => refused(out, at, n),
         Said::Number(n) => output::decimal(out, at, n as u64),
-        Said::Continue => output::text(out, at, b"continue"),
-        Said::Debug => output::text(out, at, b"debug"),
-        Said::Stop => output::text(out, at, b"stop"),
+        Said::Stepped(a) => stepped(out, at, a),
+        Said::Ran(a, n) => ran(out, at, a, n),
     }
 }
 

@@ -19,10 +19,14 @@ use crate::dumps::read;
 use crate::instructions::decode;
 use crate::instructions::encode;
 use crate::instructions::print;
+use crate::journals::back;
+use crate::journals::cursor;
+use crate::journals::forget;
 use crate::listings::listing;
 use crate::loads::load;
 use crate::loads::load_same;
 use crate::machines::regs;
+use crate::machines::run;
 use crate::machines::set;
 use crate::machines::step;
 use crate::names;
@@ -35,30 +39,41 @@ use crate::tables::register;
 use crate::tables::tables;
 
 // Commands that store nothing.
-fn on_state(c: u16, s: State, line: &[u8], at: usize, dev: &[u8]) -> Outcome {
+fn on_state(c: u16, s: State, line: &[u8], at: usize, dev: &[u8], journal: &[u8]) -> Outcome {
     if c == names::TABLES {
         return tables(s, line, at);
     }
     if c == names::REGS {
         return regs(s, line, at);
     }
+    if c == names::CURSOR {
+        return cursor(s, line, at);
+    }
     if c == names::PROTECT {
-        return protect(s, line, at, dev);
+        return protect(s, line, at, dev, journal);
     }
     if c == names::DEVICE {
-        return register(s, line, at, dev);
+        return register(s, line, at, dev, journal);
     }
     if c == names::SET {
-        return set(s, line, at, dev);
+        return set(s, line, at, dev, journal);
+    }
+    if c == names::FORGET {
+        return forget(s, line, at, dev, journal);
     }
     changed(s, Said::Bad)
 }
 
 // Commands that store.
-fn on_bytes(c: u16, s: State, line: &[u8], at: usize, mem: &mut [u8], dev: &mut [u8]) -> Outcome {
-    if c == names::STEP {
-        return step(s, line, at, mem, dev);
-    }
+fn on_bytes(
+    c: u16,
+    s: State,
+    line: &[u8],
+    at: usize,
+    mem: &mut [u8],
+    dev: &mut [u8],
+    journal: &[u8],
+) -> Outcome {
     if c == names::PUT {
         return changed(s, byte_put(s, line, at, mem, dev));
     }
@@ -66,16 +81,46 @@ fn on_bytes(c: u16, s: State, line: &[u8], at: usize, mem: &mut [u8], dev: &mut 
         return changed(s, word_put(s, line, at, mem, dev));
     }
     if c == names::LOAD {
-        return load(s, line, at, mem, dev);
+        return load(s, line, at, mem, dev, journal);
     }
-    load_same(s, line, at, mem, dev)
+    if c == names::LOADN {
+        return load_same(s, line, at, mem, dev, journal);
+    }
+    back(s, line, at, mem, dev, journal)
 }
 
-fn acted(c: u16, s: State, line: &[u8], at: usize, mem: &mut [u8], dev: &mut [u8]) -> Outcome {
-    if c < names::FIRST_STORING {
-        return on_state(c, s, line, at, dev);
+// Commands that record what they store.
+fn recorded(
+    c: u16,
+    s: State,
+    line: &[u8],
+    at: usize,
+    mem: &mut [u8],
+    dev: &mut [u8],
+    journal: &mut [u8],
+) -> Outcome {
+    if c == names::STEP {
+        return step(s, line, at, mem, dev, journal);
     }
-    on_bytes(c, s, line, at, mem, dev)
+    run(s, line, at, mem, dev, journal)
+}
+
+fn acted(
+    c: u16,
+    s: State,
+    line: &[u8],
+    at: usize,
+    mem: &mut [u8],
+    dev: &mut [u8],
+    journal: &mut [u8],
+) -> Outcome {
+    if c < names::FIRST_STORING {
+        return on_state(c, s, line, at, dev, journal);
+    }
+    if c < names::FIRST_RECORDING {
+        return on_bytes(c, s, line, at, mem, dev, journal);
+    }
+    recorded(c, s, line, at, mem, dev, journal)
 }
 
 // Commands that look at no state.
@@ -123,7 +168,7 @@ fn printed(
         return say(out, p, word_read(s, line, at, mem, dev));
     }
     if c == names::READ {
-        return read(s, line, at, mem, dev, out, p);
+        return read(s, line, at, mem, dev, journal, out, p);
     }
     printed_word(c, line, at, out, p)
 }
@@ -135,12 +180,12 @@ fn perform(
     at: usize,
     mem: &mut [u8],
     dev: &mut [u8],
-    journal: &[u8],
+    journal: &mut [u8],
     out: &mut [u8],
     p: usize,
 ) -> Turn {
     if c < names::FIRST_PRINTING {
-        return spoken(acted(c, s, line, at, mem, dev), out, p);
+        return spoken(acted(c, s, line, at, mem, dev, journal), out, p);
     }
     kept(s, printed(c, s, line, at, mem, dev, journal, out, p))
 }
@@ -153,7 +198,7 @@ fn lent(
     at: usize,
     mem: &mut [u8],
     dev: &mut [u8],
-    journal: &[u8],
+    journal: &mut [u8],
     out: &mut [u8],
     p: usize,
 ) -> Turn {
@@ -176,7 +221,7 @@ fn lent(
         at,
         &mut mem[0..m],
         &mut dev[0..d],
-        &journal[0..j],
+        &mut journal[0..j],
         out,
         p,
     )

@@ -7,7 +7,6 @@ use crate::output;
 use crate::parse::number;
 use crate::parse::word;
 use crate::state::State;
-use crate::state::map_of;
 use machine::Machine;
 use map::Map;
 use memory::ReadOut;
@@ -21,16 +20,21 @@ fn counted(out: &mut [u8], at: usize, r: ReadOut) -> usize {
 
 // Reads out into buf, and prints the verdict and the whole of buf.
 fn dump(
-    m: Map,
+    w: journal::State,
     mem: &[u8],
     dev: &[u8],
+    journal: &[u8],
     start: u16,
     size: usize,
     buf: &mut [u8],
     out: &mut [u8],
     at: usize,
 ) -> usize {
-    let p = counted(out, at, memory::read_out(m, mem, dev, start, size, buf));
+    let p = counted(
+        out,
+        at,
+        host::read_out(w, mem, dev, journal, start, size, buf),
+    );
     let q = output::put(out, p, b' ');
     output::hex_bytes(out, q, buf)
 }
@@ -41,6 +45,7 @@ pub fn read(
     at: usize,
     mem: &[u8],
     dev: &[u8],
+    journal: &[u8],
     out: &mut [u8],
     p: usize,
 ) -> usize {
@@ -50,13 +55,14 @@ pub fn read(
     if room.next != line.len() {
         return say(out, p, Said::Bad);
     }
-    let m = map_of(s);
+    let w = s.whole;
     let n = room.value as usize;
     let mut buf = [0xEEu8; 65600];
     dump(
-        m,
+        w,
         mem,
         dev,
+        journal,
         start.value,
         size.value as usize,
         &mut buf[0..n],
@@ -157,9 +163,10 @@ pub fn print_state(
     if at != line.len() {
         return say(out, p, Said::Bad);
     }
-    let m = s.machine;
+    let w = s.whole;
+    let m = w.machine;
     let p = machine_text(out, p, m);
-    let p = spaced(out, p, s.next);
-    let p = spaced(out, p, s.held);
+    let p = spaced(out, p, w.next);
+    let p = spaced(out, p, w.held);
     sums(out, p, mem, dev, journal)
 }

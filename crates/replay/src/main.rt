@@ -9,6 +9,7 @@ mod commands;
 mod dumps;
 mod input;
 mod instructions;
+mod journals;
 mod listings;
 mod loads;
 mod machines;

@@ -4,9 +4,8 @@ use machine::Registers;
 use map::Map;
 
 pub struct State {
-    pub machine: Machine,
-    pub next: u16,
-    pub held: u16,
+    // The machine, and how its journal stands.
+    pub whole: journal::State,
     // How much of each buffer the last `new` asked for. The rest of a buffer is never lent to a command.
     pub mem: usize,
     pub dev: usize,
@@ -15,38 +14,55 @@ pub struct State {
 
 // A zero state over buffers of these lengths.
 pub fn zero(mem: usize, dev: usize, journal: usize, debug: bool) -> State {
-    let m = machine::new(debug);
+    let whole = journal::new(debug);
     State {
-        machine: m,
-        next: 0,
-        held: 0,
+        whole,
         mem,
         dev,
         journal,
     }
 }
 
+pub fn machine_of(s: State) -> Machine {
+    let w = s.whole;
+    w.machine
+}
+
 pub fn map_of(s: State) -> Map {
-    let m = s.machine;
+    let m = machine_of(s);
     m.map
 }
 
-pub fn with_machine(s: State, m: Machine) -> State {
+pub fn with_whole(s: State, w: journal::State) -> State {
     let mut t = s;
-    t.machine = m;
+    t.whole = w;
     t
+}
+
+fn with_machine(s: State, m: Machine) -> State {
+    let mut w = s.whole;
+    w.machine = m;
+    with_whole(s, w)
 }
 
 // The same state with other tables.
 pub fn with_map(s: State, tables: Map) -> State {
-    let mut m = s.machine;
+    let mut m = machine_of(s);
     m.map = tables;
     with_machine(s, m)
 }
 
 // The same state with other registers.
 pub fn with_registers(s: State, r: Registers) -> State {
-    let mut m = s.machine;
+    let mut m = machine_of(s);
     m.registers = r;
     with_machine(s, m)
+}
+
+// The same state with a journal that stands elsewhere.
+pub fn with_cursor(s: State, next: u16, held: u16) -> State {
+    let mut w = s.whole;
+    w.next = next;
+    w.held = held;
+    with_whole(s, w)
 }

@@ -1,16 +1,14 @@
 // The tables: raw from the line, or one entry more by the rules.
 use crate::answers::Outcome;
 use crate::answers::Said;
+use crate::answers::after;
 use crate::answers::changed;
-use crate::answers::verdict;
 use crate::parse::word;
 use crate::parse::words;
 use crate::state::State;
-use crate::state::map_of;
 use crate::state::with_map;
 use map::Device;
 use map::Map;
-use map::Mapped;
 use map::Region;
 ghost use Prim.Native.Nat.{_<_};
 
@@ -75,28 +73,25 @@ pub fn tables(s: State, line: &[u8], at: usize) -> Outcome {
     changed(with_map(s, m), Said::Done)
 }
 
-fn mapped(s: State, q: Mapped) -> Outcome {
-    let m = q.map;
-    let answer = q.answer;
-    changed(with_map(s, m), verdict(answer))
-}
-
-pub fn protect(s: State, line: &[u8], at: usize, dev: &[u8]) -> Outcome {
+pub fn protect(s: State, line: &[u8], at: usize, dev: &[u8], journal: &[u8]) -> Outcome {
     let start = word(line, at);
     let len = word(line, start.next);
     if len.next != line.len() {
         return changed(s, Said::Bad);
     }
-    let m = map_of(s);
-    mapped(s, map::protect(m, dev, start.value, len.value))
+    let w = s.whole;
+    after(s, host::protect(w, dev, journal, start.value, len.value))
 }
 
-pub fn register(s: State, line: &[u8], at: usize, dev: &[u8]) -> Outcome {
+pub fn register(s: State, line: &[u8], at: usize, dev: &[u8], journal: &[u8]) -> Outcome {
     let start = word(line, at);
     let size = word(line, start.next);
     if size.next != line.len() {
         return changed(s, Said::Bad);
     }
-    let m = map_of(s);
-    mapped(s, map::register_device(m, dev, start.value, size.value))
+    let w = s.whole;
+    after(
+        s,
+        host::register_device(w, dev, journal, start.value, size.value),
+    )
 }
