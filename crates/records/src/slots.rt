@@ -35,7 +35,7 @@ pub fn read(journal: &[u8], k: u16) -> Record
     ensures { λ r. ⌜ r ≡ recordAt (now (journal .entry)) k ⌝ }
 {
     let at = 23 * (k as usize);
-    decode(&journal[at..at + 22])
+    decode(&journal[at..at + 23])
 }
 
 // Fills slot k.
