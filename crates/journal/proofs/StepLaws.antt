@@ -15,8 +15,6 @@ use Rattle.machine.specs.Step as machine
 use Rattle.machine.specs.States as machine-states
 use Rattle.machine.specs.declared.Registers.{Registers}
 use Rattle.machine.proofs.Laws as machine-laws
-use Rattle.machine.proofs.EightLaws.{step-eight}
-use Rattle.machine.proofs.StopLaws.{step-stopped}
 use Rattle.memory.specs.Bytes.{Lent}
 use Rattle.memory.specs.declared.Changes.{Changes}
 use Rattle.memory.specs.declared.Changes.the-variants.{Nothing, One, Two}
@@ -144,7 +142,7 @@ module _ (w : Whole) where
   -- eight registers
   pub step-eight-kept : length (w .state .machine .registers .value) ≡ 8 → length (step w .whole .state .machine .registers .value) ≡ 8
   step-eight-kept l =
-      let k = step-eight (w .state .machine) (w .bytes) l in
+      let k = machine-laws.step-eight (w .state .machine) (w .bytes) l in
       every-step Eight l (λ e. accepted-step e Eight (λ z. k) (λ n. k))
     where
       Eight : Whole → Type 0
@@ -196,7 +194,7 @@ module _ (w : Whole) where
   unfolding isAccepted
   unaccepted-own (is answers.Continue) e n = clash (sym n)
   unaccepted-own (is answers.Debug) e n = clash (sym n)
-  unaccepted-own (is answers.Stop) e n = step-stopped (w .state .machine) (w .bytes) e
+  unaccepted-own (is answers.Stop) e n = machine-laws.step-stopped (w .state .machine) (w .bytes) e
   unaccepted-own (no k) e n = machine-laws.step-refused (w .state .machine) (w .bytes) k e
 
   pub step-own : validWhole w ≡ true → Own

@@ -1,5 +1,5 @@
--- What the crates above may use of a step: what is not accepted changes nothing, and every step keeps lengths, tables and
--- validity, since a plan is made by memory alone. Assumes nothing.
+-- What the crates above may use of a step: what is not accepted changes nothing, and every step keeps lengths, tables, eight
+-- registers and validity, since a plan is made by memory alone. Assumes nothing.
 use mathlib.Core.Path.{_≡_, refl, sym, ap, _∙_}
 use mathlib.Core.Bool.{Bool, true, false}
 use mathlib.Core.List.{List}
@@ -10,6 +10,7 @@ use Rattle.base.specs.Told.{Told, is, no}
 use Rattle.base.specs.Addresses.{raisedPc}
 use Rattle.base.specs.declared.addresses.Reached.the-variants.{At}
 use Rattle.base.proofs.AddressLaws.{reached-at}
+use Rattle.base.proofs.ToldLaws.{is-not-no}
 use Rattle.instruction.specs.Decode.{decode}
 use Rattle.instruction.specs.declared.Register.the-variants.{PC}
 use Rattle.instruction.specs.declared.Instruction.the-variants.{Noop}
@@ -27,7 +28,7 @@ use Rattle.machine.specs.Plan.{Planned, plans, raised, finished, decoded
 use Rattle.machine.specs.Step.{After, after, committed, step}
 use Rattle.machine.specs.States.{valid, with}
 use Rattle.machine.specs.declared.Machine.{Machine}
-use Rattle.machine.proofs.PlanLaws.{plan-refused}
+use Rattle.machine.proofs.PlanLaws.{plan-refused, plan-stops, plan-eight}
 use Rattle.machine.proofs.RegisterLaws.{get-own}
 
 -- validity looks at the tables, and at how many device bytes are lent
@@ -58,14 +59,14 @@ module _ (m : Machine) (b : Lent) where
   unfolding committed
   nothing-done a e = ap (committed m b) e ∙ ap (λ (x : Lent). after a m x) (nothing-made b)
 
+  answer-of : valid m (b .dev) ≡ true → step m b .answer ≡ plan m b .answer
+  unfolding committed
+  answer-of h = ap (λ (x : After). x .answer) (valid-step h)
+
   -- a refused step
   pub step-refused : (n : ℕ) → step m b .answer ≡ no n → step m b ≡ after (no n) m b
-  unfolding committed
   step-refused n = go (valid m (b .dev)) refl
     where
-      answer-of : valid m (b .dev) ≡ true → step m b .answer ≡ plan m b .answer
-      answer-of h = ap (λ (x : After). x .answer) (valid-step h)
-
       go : (t : Bool) → valid m (b .dev) ≡ t → step m b .answer ≡ no n → step m b ≡ after (no n) m b
       go false h e = invalid-step h ∙ ap (λ (a : Told State). after a m b) (sym (ap (λ (x : After). x .answer) (invalid-step h)) ∙ e)
       go true h e = valid-step h ∙ nothing-done (no n) (plan-refused m b n (sym (answer-of h) ∙ e))
@@ -74,6 +75,14 @@ module _ (m : Machine) (b : Lent) where
   pub step-stops : valid m (b .dev) ≡ true → flag (m .registers) 0 ≡ true → step m b ≡ after (is Stop) m b
   unfolding plan
   step-stops h f = valid-step h ∙ nothing-done (is Stop) (rw f)
+
+  -- so a step that answers Stop changes nothing
+  pub step-stopped : step m b .answer ≡ is Stop → step m b ≡ after (is Stop) m b
+  step-stopped = go (valid m (b .dev)) refl
+    where
+      go : (t : Bool) → valid m (b .dev) ≡ t → step m b .answer ≡ is Stop → step m b ≡ after (is Stop) m b
+      go false h e = is-not-no Stop 1 (sym e ∙ ap (λ (x : After). x .answer) (invalid-step h))
+      go true h e = step-stops h (plan-stops m b (sym (answer-of h) ∙ e))
 
   -- ---- what every step keeps
 
@@ -96,6 +105,11 @@ module _ (m : Machine) (b : Lent) where
   pub step-mode : step m b .machine .mode ≡ m .mode
   unfolding committed
   step-mode = every-step (λ (x : After). x .machine .mode ≡ m .mode) refl refl
+
+  -- eight registers stay eight
+  pub step-eight : length (m .registers .value) ≡ 8 → length (step m b .machine .registers .value) ≡ 8
+  unfolding committed
+  step-eight h = every-step (λ (x : After). length (x .machine .registers .value) ≡ 8) h (plan-eight m b h)
 
   -- a valid state stays valid
   pub step-valid : valid m (b .dev) ≡ true → valid (step m b .machine) (step m b .bytes .dev) ≡ true

@@ -1,9 +1,8 @@
 pub mod RegisterLaws
 pub mod StateLaws
+pub mod ActCases
 pub mod PlanLaws
 pub mod Laws
-pub mod EightLaws
-pub mod StopLaws
 pub mod StoreLaws
 pub mod AnswerLaws
 pub mod MarkedLaw
