@@ -4,13 +4,9 @@ use mathlib.Core.Path.{_≡_, sym, ap, _∙_}
 use native.Mathlib.Omega.{arith}
 use Rattle.base.specs.Numbers.{numberOf}
 use Rattle.base.proofs.Laws.{number-one}
-use Rattle.base.proofs.ToldLaws.{is-not-no, is-one, no-one}
-use Rattle.asm.specs.Assemble.{Report, counts, refusal, answered}
-use Rattle.asm.specs.Single.{toldLine}
+use Rattle.asm.specs.Assemble.{counts, refusal, answered}
 use Rattle.asm.specs.declared.Assembled.{Assembled}
 use Rattle.asm.specs.declared.Assembled.the-variants.{Accepted, Refused}
-use Rattle.asm.specs.declared.LineAnswer.{LineAnswer}
-use Rattle.asm.specs.declared.LineAnswer.the-variants as LineAnswer
 
 refusal-numbers : (n k line at : ℕ) → refusal n line ≡ refusal k at → n ≡ k
 refusal-numbers n k line at e = cc
@@ -28,9 +24,3 @@ assembled-one (Refused r line) (Accepted w l o) e = counts-no-refusal w l o (num
 assembled-one (Refused r line) (Refused q at) e =
     ap (λ x. Refused x line) (number-one r q (refusal-numbers (numberOf r) (numberOf q) line at e))
     ∙ ap (Refused q) (refusal-lines (numberOf r) (numberOf q) line at e)
-
-pub line-one : (a b : LineAnswer) → toldLine a ≡ toldLine b → a ≡ b
-line-one (LineAnswer.Is i) (LineAnswer.Is j) e = ap LineAnswer.Is (is-one i j e)
-line-one (LineAnswer.Is i) (LineAnswer.Refused r) e = is-not-no i (numberOf r) e
-line-one (LineAnswer.Refused r) (LineAnswer.Is i) e = is-not-no i (numberOf r) (sym e)
-line-one (LineAnswer.Refused r) (LineAnswer.Refused q) e = ap LineAnswer.Refused (number-one r q (no-one (numberOf r) (numberOf q) e))

@@ -1,4 +1,4 @@
--- Zeros one after another: what is left of an array, filled up from i on, stays the same when a zero is put at i.
+-- Zeros one after another: what is left of an array, filled up from i on, stays the same when a zero is put at i. Assumes nothing.
 use Prim.Native.Nat.{_+_, _-_, _<_, _≤_, suc, ℕ}
 use lib.ListN.{length, length-append, length-set, replicate, set, take}
 use lib.Seq.{length-take-le, take-all, take-append-seam}

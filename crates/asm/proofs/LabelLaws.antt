@@ -1,5 +1,5 @@
--- Defining a label, in the first entries of a table: the entry with its name is overwritten, else one is added.
--- an answer is a count of the first entries
+-- Defining a label, in the first entries of a table: the entry with its name is overwritten, else one is added. An answer is a
+-- count of the first entries. Assumes nothing.
 use Prim.Native.Nat.{_+_, _≤_, ℕ}
 use borrow.Author.Tests.{ltb-true}
 use lib.Dec.{ltb}
@@ -15,9 +15,8 @@ use Rattle.base.proofs.ToldLaws.{is-not-no, is-one}
 use Rattle.base.specs.Choice.{cond}
 use Rattle.base.specs.Numbers.{numberOf}
 use Rattle.base.specs.Told.{Told, is, no, _>>=_}
-use Rattle.labels.proofs.Laws.{labels-set}
 use Rattle.labels.proofs.ListLaws.{take-set, take-snoc}
-use Rattle.labels.specs.Labels.{find, labelsOf}
+use Rattle.labels.specs.Labels.{find}
 use Rattle.labels.specs.declared.Label.{Label}
 use Rattle.labels.specs.declared.Found.{Found}
 use Rattle.labels.specs.declared.Found.the-variants.{Nothing, At}
@@ -36,28 +35,27 @@ none : (d : Defined) (n : ℕ) → used d ≡ no n → countOf d ≡ 0
 none (Defined.Count n) k e = is-not-no n k e
 none (Defined.Refused r) k e = refl
 
-pub labels-stored : (ps ls ads ps' ls' ads' : List ℕ) (i : ℕ) (l : Label) → ps' ≡ set ps i (l .place) → ls' ≡ set ls i (l .length) → ads' ≡ set ads i (l .address) →
-    labelsOf ps' ls' ads' ≡ set (labelsOf ps ls ads) i l
-labels-stored ps ls ads ps' ls' ads' i l p q r = rw (p, q, r) (labels-set ps ls ads i (l .place) (l .length) (l .address))
-
-module _ (text : List ℕ) (labels : List Label) (count : ℕ) (h : count ≤ length labels) (l : Label) where
-  pub define-used : (f : Found) → find text (part text (l .place) (l .length)) (take count labels) ≡ f → (d : Defined) → used d ≡ usedOf f count (length labels) →
-      defined d (set labels (slotOf f count) l) ≡ define text (length labels) l (take count labels)
-  unfolding define
-  define-used (At i) e d u = defined-used d (set labels i l) ∙ ap (λ (x : Told ℕ). _>>=_ x (λ n. is (take n (set labels i l)))) u ∙ ap is (take-set count labels i l) ∙ rw e
-  define-used Nothing e d u =
-      let n : length (take count labels) ≡ count = length-take-le count labels h in
-      defined-used d (set labels count l) ∙ ap (λ (x : Told ℕ). _>>=_ x (λ k. is (take k (set labels count l)))) u ∙ go (ltb count (length labels)) refl ∙ rw (e, n)
+module _ (count most : ℕ) (h : count ≤ most) where
+  pub define-count : (f : Found) (d : Defined) → used d ≡ usedOf f count most → countOf d ≤ most
+  define-count (At i a) d u = omega (arith, counted d count u)
+  define-count Nothing d u = go (ltb count most) refl u
     where
-      go : (t : Bool) → ltb count (length labels) ≡ t →
-          _>>=_ (cond t (is (count + 1)) (no 27)) (λ k. is (take k (set labels count l))) ≡ cond t (is (take count labels ++ (l ∷ []))) (no 27)
-      go true q = ap is (take-snoc labels count l (ltb-true count (length labels) q))
-      go false q = refl
-
-  pub define-count : (f : Found) → (d : Defined) → used d ≡ usedOf f count (length labels) → countOf d ≤ length labels
-  define-count (At i) d u = omega (arith, counted d count u)
-  define-count Nothing d u = go (ltb count (length labels)) refl u
-    where
-      go : (t : Bool) → ltb count (length labels) ≡ t → used d ≡ cond t (is (count + 1)) (no 27) → countOf d ≤ length labels
-      go true q v = omega (arith, counted d (count + 1) v, ltb-true count (length labels) q)
+      go : (t : Bool) → ltb count most ≡ t → used d ≡ cond t (is (count + 1)) (no 27) → countOf d ≤ most
+      go true q v = omega (arith, counted d (count + 1) v, ltb-true count most q)
       go false q v = omega (arith, none d 27 v)
+
+  -- in a table of `most` entries, of which the first `count` are used
+  pub define-used : (text : List ℕ) (labels : List Label) (l : Label) → length labels ≡ most →
+      (f : Found) → f ≡ find text (part text (l .place) (l .length)) (take count labels) → (d : Defined) → used d ≡ usedOf f count most →
+      defined d (set labels (slotOf f count) l) ≡ define text most l (take count labels)
+  unfolding define
+  define-used text labels l room (At i a) e d u =
+      defined-used d (set labels i l) ∙ ap (λ (x : Told ℕ). _>>=_ x (λ n. is (take n (set labels i l)))) u ∙ ap is (take-set count labels i l) ∙ rw (← e)
+  define-used text labels l room Nothing e d u =
+      let n : length (take count labels) ≡ count = length-take-le count labels (omega (arith, room, h)) in
+      defined-used d (set labels count l) ∙ ap (λ (x : Told ℕ). _>>=_ x (λ k. is (take k (set labels count l)))) u ∙ go (ltb count most) refl ∙ rw (← e, n)
+    where
+      go : (t : Bool) → ltb count most ≡ t →
+          _>>=_ (cond t (is (count + 1)) (no 27)) (λ k. is (take k (set labels count l))) ≡ cond t (is (take count labels ++ (l ∷ []))) (no 27)
+      go true q = ap is (take-snoc labels count l (omega (arith, room, ltb-true count most q)))
+      go false q = refl

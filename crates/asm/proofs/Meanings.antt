@@ -23,7 +23,7 @@ use Rattle.labels.specs.Labels as Labels
 use Rattle.labels.specs.Opens.{openTo}
 use Rattle.asm.specs.Labels.{part, Patched, patch}
 use Rattle.asm.specs.Reading.{Item, skip, label, says, refers}
-use Rattle.asm.specs.Work.{Task, Work, nothing, addressIn, refersTo, references, labelsAt, labelled}
+use Rattle.asm.specs.Work.{Task, Work, nothing, refersTo, references, labelsAt, labelled}
 use Rattle.asm.specs.Work as Work
 use Rattle.asm.specs.Assemble.{accepted, refused, assembleFrom, assemble}
 use Rattle.asm.specs.Meaning.{Meant, itemsFrom, latest, later, either, refer, meant, meaning, defined, definitions, leadsTo}
@@ -31,7 +31,7 @@ use Rattle.asm.proofs.Accepted.{both, said, opened, labelling}
 use Rattle.asm.proofs.Places.{Within, text-within}
 use Rattle.asm.proofs.Items.{follow, followed, refused-not}
 use Rattle.asm.proofs.Tables.{found-latest, defined-latest}
-use Rattle.asm.proofs.Slots.{Slot, done, waits, asMeant, slotWord, openFrom, now, settle, AllGood, map-end, map-snoc, map-length, open-done, open-waits, good-end, settled-none, settled-now}
+use Rattle.asm.proofs.Slots.{Slot, done, waits, asMeant, slotWord, openFrom, becomes, settle, AllGood, map-end, map-snoc, map-length, open-done, open-waits, good-end, settled-none, settled-now}
 use Rattle.asm.proofs.Patches.{Shows, patched}
 
 module _ (t : Task) where
@@ -100,10 +100,10 @@ module _ (t : Task) where
         known = found-latest (t .text) name (w .labels) ∙ h .labels name
 
         go : (f : Found) → leadsTo (w .labels) f ≡ latest (t .text) name before → refersTo t r place size w f ≡ is v → Referred r name
-        go (At i) q e =
+        go (At i a) q e =
             record {
-              slot = done (resolved r (addressIn (w .labels) i));
-              holds = holds-says (resolved r (addressIn (w .labels) i)) e;
+              slot = done (resolved r a);
+              holds = holds-says (resolved r a) e;
               means = λ f. ap (λ (x : Told ℕ). refer r (either x (f name))) q;
             }
         go Nothing q e =
@@ -115,11 +115,11 @@ module _ (t : Task) where
 
     -- patching, read off the slots
     patch-slots : (name : List ℕ) (a : ℕ) (p : Patched) → patch (t .strict) (t .text) name a (w .waiting) (w .words) ≡ is p →
-        Shows (t .strict) (t .text) name a (length (t .text)) 0 [] (map (now (t .text) name a) slots) p
+        Shows (t .strict) (t .text) name a (length (t .text)) 0 [] (map (becomes (t .text) name a) slots) p
     patch-slots name a p e = patched (t .strict) (t .text) name a (length (t .text)) slots 0 (h .good) [] p refl (rw (h .waiting, h .words) at e)
 
     holds-label : (place size : ℕ) → place + size ≤ length (t .text) → labelled t place size w ≡ is v →
-        Holds n (Labels.label place size (doubled n) ∷ before) (map (now (t .text) (part (t .text) place size) (doubled n)) slots) v
+        Holds n (Labels.label place size (doubled n) ∷ before) (map (becomes (t .text) (part (t .text) place size) (doubled n)) slots) v
     unfolding labelled
     holds-label place size l e =
         let k : length (w .words) ≡ n = ap length (h .words) ∙ map-length slotWord slots ∙ h .count in
@@ -128,7 +128,7 @@ module _ (t : Task) where
         let s = labelling t w v entry (subst (λ (x : ℕ). labelsAt t (Labels.label place size (doubled x)) w ≡ is v) k e) in
         let p = patch-slots name (doubled n) (s .patches) (s .patching) in
         record {
-          count = map-length (now (t .text) name (doubled n)) slots ∙ h .count;
+          count = map-length (becomes (t .text) name (doubled n)) slots ∙ h .count;
           words = s .words ∙ p .words;
           waiting = s .waiting ∙ p .waiting;
           labels = λ other.
@@ -157,7 +157,7 @@ module _ (t : Task) where
       let s = both (labelled t place size w) (follow t items) v e in
       let name : List ℕ = part (t .text) place size in
       let entry : Label = Labels.label place size (doubled n) in
-      let settled = map (now (t .text) name (doubled n)) slots in
+      let settled = map (becomes (t .text) name (doubled n)) slots in
       means-also (defined (entry ∷ before) n items)
       (map (rest n items) settled ++ meant (t .text) (entry ∷ before) n items)
       (map (rest n (label place size ∷ items)) slots ++ meant (t .text) (entry ∷ before) n items) v

@@ -1,4 +1,5 @@
 -- Patching in place: those that stay open close up behind each other, so the kept ones and the rest are what is left to patch.
+-- Assumes nothing.
 use Prim.Native.Nat.{_+_, _-_, _<_, _≤_, suc, ℕ}
 use borrow.Author.Tests.{le-ltb, lt-ltb}
 use lib.ListN.{drop, getD, length, set, take}

@@ -19,7 +19,7 @@ use Rattle.labels.specs.Opens.{openTo}
 use Rattle.asm.specs.Words.{wordOf}
 use Rattle.asm.specs.Labels.{Patched, keep, patch}
 use Rattle.asm.proofs.Accepted.{both, allowed}
-use Rattle.asm.proofs.Slots.{Slot, done, waits, slotWord, openFrom, now, AllGood}
+use Rattle.asm.proofs.Slots.{Slot, done, waits, slotWord, openFrom, becomes, AllGood}
 
 one-more : (front : List ℕ) (x i : ℕ) → length front ≡ i → length (front ++ x ∷ []) ≡ suc i
 one-more front x i h = omega (arith, length-append front (x ∷ []))
@@ -33,7 +33,7 @@ module _ (strict : Bool) (text name : List ℕ) (a n : ℕ) where
 
   abbrev pub Patches : ℕ → List Slot → Type 0
   Patches i slots = (front : List ℕ) (p : Patched) → length front ≡ i → patch strict text name a (openFrom i slots) (front ++ map slotWord slots) ≡ is p →
-      Shows i front (map (now text name a) slots) p
+      Shows i front (map (becomes text name a) slots) p
 
   waited : (r : Reference) (place size i : ℕ) (slots : List Slot) → AllGood strict n (waits r place size ∷ slots) → Patches (suc i) slots → Patches i (waits r place size ∷ slots)
   unfolding patch
@@ -46,7 +46,7 @@ module _ (strict : Bool) (text name : List ℕ) (a n : ℕ) where
           cond t
           (_>>=_ (wordOf strict (resolved r a)) (λ w. patch strict text name a (openFrom (suc i) slots) (set (front ++ 0 ∷ rest) i w)))
           (_>>=_ (patch strict text name a (openFrom (suc i) slots) (front ++ 0 ∷ rest)) (λ p. is (keep (openTo place size i r) p))) ≡ is p →
-          Shows i front (cond t (done (resolved r a)) (waits r place size) ∷ map (now text name a) slots) p
+          Shows i front (cond t (done (resolved r a)) (waits r place size) ∷ map (becomes text name a) slots) p
       go true e =
           let u = both (wordOf strict (resolved r a)) (λ w. patch strict text name a (openFrom (suc i) slots) (set (front ++ 0 ∷ rest) i w)) p e in
           let w : ℕ = u .value in
@@ -55,8 +55,8 @@ module _ (strict : Bool) (text name : List ℕ) (a n : ℕ) where
           let s = ih (front ++ w ∷ []) p (one-more front w i h) (ap (patch strict text name a (openFrom (suc i) slots)) (sym f) ∙ u .next) in
           record {
             words =
-                s .words ∙ append-snoc front w (map slotWord (map (now text name a) slots)) ∙
-                ap (λ (x : ℕ). front ++ x ∷ map slotWord (map (now text name a) slots)) (c .0);
+                s .words ∙ append-snoc front w (map slotWord (map (becomes text name a) slots)) ∙
+                ap (λ (x : ℕ). front ++ x ∷ map slotWord (map (becomes text name a) slots)) (c .0);
             waiting = s .waiting;
             good = (c .1, s .good);
           }
@@ -66,7 +66,7 @@ module _ (strict : Bool) (text name : List ℕ) (a n : ℕ) where
           let d : p ≡ keep o (u .value) = sym (is-one (keep o (u .value)) p (u .next)) in
           let s = ih (front ++ 0 ∷ []) (u .value) (one-more front 0 i h) (ap (patch strict text name a (openFrom (suc i) slots)) (append-snoc front 0 rest) ∙ u .first) in
           record {
-            words = ap (λ (x : Patched). x .words) d ∙ s .words ∙ append-snoc front 0 (map slotWord (map (now text name a) slots));
+            words = ap (λ (x : Patched). x .words) d ∙ s .words ∙ append-snoc front 0 (map slotWord (map (becomes text name a) slots));
             waiting = ap (λ (x : Patched). x .waiting) d ∙ ap (λ (x : List Open). o ∷ x) (s .waiting);
             good = (g .0, s .good);
           }
@@ -80,5 +80,5 @@ module _ (strict : Bool) (text name : List ℕ) (a n : ℕ) where
       let s =
       patched slots (suc i) (g .1) (front ++ encode j ∷ []) p (one-more front (encode j) i h)
       (ap (patch strict text name a (openFrom (suc i) slots)) (append-snoc front (encode j) (map slotWord slots)) ∙ e) in
-      record { words = s .words ∙ append-snoc front (encode j) (map slotWord (map (now text name a) slots)); waiting = s .waiting; good = (g .0, s .good) }
+      record { words = s .words ∙ append-snoc front (encode j) (map slotWord (map (becomes text name a) slots)); waiting = s .waiting; good = (g .0, s .good) }
   patched (waits r place size ∷ slots) i g front p h e = waited r place size i slots g (patched slots (suc i) (g .1)) front p h e

@@ -1,4 +1,4 @@
--- A trimmed line by its first byte, its final colons and its tokens.
+-- A trimmed line by its first byte, its final colons and its tokens. Assumes nothing.
 use Prim.Native.Nat.{_<_, _≤_, ℕ}
 use borrow.Author.Tests.{eq-eqb, le-ltb, lt-ltb, ne-eqb}
 use lib.ListN.{getD, length}

@@ -41,9 +41,9 @@ openFrom i (done j ∷ slots) = openFrom (suc i) slots
 openFrom i (waits r place size ∷ slots) = openTo place size i r ∷ openFrom (suc i) slots
 
 -- after a definition of the name
-abbrev pub now : List ℕ → List ℕ → ℕ → Slot → Slot
-now text name a (done i) = done i
-now text name a (waits r place size) = cond (names text place size name) (done (resolved r a)) (waits r place size)
+abbrev pub becomes : List ℕ → List ℕ → ℕ → Slot → Slot
+becomes text name a (done i) = done i
+becomes text name a (waits r place size) = cond (names text place size name) (done (resolved r a)) (waits r place size)
 
 -- what it means if names come to these addresses
 abbrev pub settle : List ℕ → (List ℕ → Told ℕ) → Slot → Meant
@@ -104,7 +104,7 @@ settled-none text n (waits r place size ∷ slots) = ap (λ (r : List Meant). ne
 -- what waits for a name gets the address of its next definition
 module _ (strict : Bool) (text : List ℕ) (place size n : ℕ) (items : List Item) (h : place + size ≤ length text) where
   settled-one : (s : Slot) → Good strict (length text) s →
-      settle text (λ name. later text name n items) (now text (part text place size) (doubled n) s) ≡ settle text (λ name. later text name n (label place size ∷ items)) s
+      settle text (λ name. later text name n items) (becomes text (part text place size) (doubled n) s) ≡ settle text (λ name. later text name n (label place size ∷ items)) s
   settled-one (done i) g = refl
   settled-one (waits r q z) g =
       go (names text q z (part text place size)) ∙
@@ -116,11 +116,11 @@ module _ (strict : Bool) (text : List ℕ) (place size n : ℕ) (items : List It
       go false = refl
 
   pub settled-now : (slots : List Slot) → AllGood strict (length text) slots →
-      map (settle text (λ name. later text name n items)) (map (now text (part text place size) (doubled n)) slots) ≡
+      map (settle text (λ name. later text name n items)) (map (becomes text (part text place size) (doubled n)) slots) ≡
       map (settle text (λ name. later text name n (label place size ∷ items))) slots
   settled-now [] g = refl
   settled-now (s ∷ slots) g =
-      ap (λ (m : Meant). m ∷ map (settle text (λ name. later text name n items)) (map (now text (part text place size) (doubled n)) slots)) (settled-one s (g .0)) ∙
+      ap (λ (m : Meant). m ∷ map (settle text (λ name. later text name n items)) (map (becomes text (part text place size) (doubled n)) slots)) (settled-one s (g .0)) ∙
       ap (λ (ms : List Meant). settle text (λ name. later text name n (label place size ∷ items)) s ∷ ms) (settled-now slots (g .1))
 
 -- ---- what a list of them shows at the end

@@ -5,7 +5,6 @@ use mathlib.Core.Path.{_≡_, refl, sym, ap, _∙_}
 use mathlib.Core.Bool.{Bool, true, false}
 use mathlib.Core.List.{List, [], _∷_, _++_}
 use native.Mathlib.Nat.{le-of-suc-le-suc, not-suc-le-zero}
-use native.Mathlib.Numerals.{add-one}
 use native.Mathlib.Omega.{arith}
 use lib.Dec.{ltb}
 use lib.ListN.{length, getD, set}
@@ -22,7 +21,6 @@ use Rattle.labels.proofs.Laws.{find-lt, find-named, find-first}
 use Rattle.labels.proofs.FindLaws.{behind, find-none, find-here, find-behind}
 use Rattle.labels.proofs.NameLaws.{names-within, names-part}
 use Rattle.asm.specs.Labels.{part, entered, define}
-use Rattle.asm.specs.Work.{addressIn}
 use Rattle.asm.specs.Meaning.{latest, leadsTo}
 use Rattle.asm.proofs.Accepted.{chosen}
 
@@ -57,7 +55,7 @@ module _ (text : List ℕ) where
     where
       later : (f : Found) → leadsTo (l ∷ ls) (behind f) ≡ leadsTo ls f
       later Nothing = refl
-      later (At i) = ap (λ (k : ℕ). is (addressIn (l ∷ ls) k)) (add-one i)
+      later (At i a) = refl
 
       go : (t : Bool) → isNamed text name l ≡ t → leadsTo ls (find text name ls) ≡ latest text name ls →
           leadsTo (l ∷ ls) (find text name (l ∷ ls)) ≡ cond (isNamed text name l) (is (l .address)) (latest text name ls)
@@ -120,9 +118,9 @@ module _ (text : List ℕ) where
       none q = sym (found-latest own ls) ∙ ap (leadsTo ls) q
 
       go : (f : Found) → find text own ls ≡ f → entered room l ls f ≡ is new → latest text name new ≡ latest text name (l ∷ ls)
-      go (At i) q r =
+      go (At i a) q r =
           ap (latest text name) (sym (is-one (set ls i l) new r)) ∙
-          replaced name own l l only has ls i (find-lt text own ls i q) (find-named text own ls i q l) (λ j k. find-first text own ls i q j l k)
+          replaced name own l l only has ls i (find-lt text own ls i a q) (find-named text own ls i a q l) (λ j k. find-first text own ls i a q j l k)
       go Nothing q r =
           ap (latest text name) (chosen (ltb (length ls) room) (ls ++ l ∷ []) new 27 r) ∙
           added name l ls (λ s. ap (λ (x : List ℕ). latest text x ls) (only s) ∙ none q)

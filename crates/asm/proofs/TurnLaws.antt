@@ -1,8 +1,7 @@
--- One line's work, from what its parts did to the arrays: each answer is taken apart, and the rest computes.
--- one word more, the other two parts of the work as they were
-use Prim.Native.Nat.{_<_, _≤_, ℕ}
-use lib.ListN.{getD, length, take}
-use lib.Seq.{getD-take, length-take-le}
+-- One line's work, from what its parts did to the arrays: each answer is taken apart, and the rest computes. Assumes nothing.
+use Prim.Native.Nat.{_≤_, ℕ}
+use lib.ListN.{length, take}
+use lib.Seq.{length-take-le}
 use mathlib.Core.List.{List}
 use mathlib.Core.Path.{_∙_, _≡_, ap, refl, sym}
 use native.Mathlib.Omega.{arith}
@@ -10,12 +9,11 @@ use Rattle.asm.proofs.PatchLaws.{patch-take}
 use Rattle.asm.specs.Labels.{Patched, addOpen, define, part, patch, patchedOf}
 use Rattle.asm.specs.Views.{added, labelsIn, left, leftOf, leftTurn, nextOf, opened, patched, turned, waitingIn, wordedOf, wordsIn, workOf}
 use Rattle.asm.specs.Words.{addInstruction, addWord}
-use Rattle.asm.specs.Work.{Task, Work, addressIn, labelled, labelsAt, opens, references, says, withWords, work}
+use Rattle.asm.specs.Work.{Task, Work, labelled, labelsAt, opens, references, says, withWords, work}
 use Rattle.base.specs.Numbers.{numberOf}
 use Rattle.base.specs.Told.{Told, is, no, _>>=_}
 use Rattle.base.specs.Words.{doubled}
-use Rattle.labels.proofs.Laws.{find-lt, labels-address}
-use Rattle.labels.specs.Labels.{addressOf, find, label, labelsOf}
+use Rattle.labels.specs.Labels.{find, label}
 use Rattle.labels.specs.Opens.{openTo}
 use Rattle.parser.specs.References.{resolved}
 use Rattle.base.specs.declared.refusals.Refusal.{Refusal}
@@ -25,12 +23,13 @@ use Rattle.parser.specs.declared.Reference.{Reference}
 use Rattle.labels.specs.declared.Label.{Label}
 use Rattle.labels.specs.declared.Open.{Open}
 use Rattle.labels.specs.declared.Found.the-variants.{Nothing, At}
-use Rattle.asm.specs.declared.turns.Counts.{Counts}
+use Rattle.asm.specs.declared.Counts.{Counts}
 use Rattle.asm.specs.declared.words.Added.{Added}
 use Rattle.asm.specs.declared.patching.Left.{Left}
 use Rattle.asm.specs.declared.words.Added.the-variants as Added
 use Rattle.asm.specs.declared.patching.Left.the-variants as Left
 
+-- one word more, the other two parts of the work as they were
 module _ (n : Counts) (words words' : List ℕ) (labels : List Label) (waiting : List Open) where
   pub turn-worded : (a : Added) (x : Told (List ℕ)) → added a words' ≡ x →
       turned (wordedOf a n) words' labels waiting ≡ _>>=_ x (λ ws. is (withWords (workOf n words labels waiting) ws))
@@ -94,25 +93,13 @@ module _ (t : Task) (place size : ℕ) (n : Counts) (words : List ℕ) (labels :
 
 -- a reference, by what is found of its name
 module _ (t : Task) (r : Reference) (place size : ℕ) (w : Work) where
-  pub turn-known : (i : ℕ) (a : ℕ) → find (t .text) (part (t .text) place size) (w .labels) ≡ At i → a ≡ addressIn (w .labels) i → says t (resolved r a) w ≡ references t r place size w
+  pub turn-known : (i a : ℕ) → find (t .text) (part (t .text) place size) (w .labels) ≡ At i a → says t (resolved r a) w ≡ references t r place size w
   unfolding references
-  turn-known i a e q = rw (e, q)
+  turn-known i a e = rw e
 
   pub turn-unknown : find (t .text) (part (t .text) place size) (w .labels) ≡ Nothing → opens t (openTo place size (length (w .words)) r) w ≡ references t r place size w
   unfolding references
   turn-unknown e = rw e
-
--- the address of the entry that was found among the first k
-pub address-found : (text name ps ls ads : List ℕ) (k i : ℕ) → k ≤ length (labelsOf ps ls ads) → find text name (take k (labelsOf ps ls ads)) ≡ At i →
-    getD ads i 0 ≡ addressIn (take k (labelsOf ps ls ads)) i
-address-found text name ps ls ads k i h e =
-    let n : length (take k (labelsOf ps ls ads)) ≡ k = length-take-le k (labelsOf ps ls ads) h in
-    let l : i < length (take k (labelsOf ps ls ads)) = find-lt text name (take k (labelsOf ps ls ads)) i e in
-    let j : i < length (labelsOf ps ls ads) = omega (arith, n, l) in
-    labels-address ps ls ads i (label 0 0 0) j ∙ ap addressOf (sym (getD-take k (labelsOf ps ls ads) i (label 0 0 0) (omega (arith, n, l))))
-
-pub address-of : (text name ps ls ads : List ℕ) (i : ℕ) → find text name (labelsOf ps ls ads) ≡ At i → getD ads i 0 ≡ addressIn (labelsOf ps ls ads) i
-address-of text name ps ls ads i e = labels-address ps ls ads i (label 0 0 0) (find-lt text name (labelsOf ps ls ads) i e)
 
 -- counts after an answer
 pub worded-words : (a : Added) (n : Counts) → wordsIn (wordedOf a n) ≡ nextOf a

@@ -1,4 +1,4 @@
--- One word more, as the first words of an array: it goes after them where there is room.
+-- One word more, as the first words of an array: it goes after them where there is room. Assumes nothing.
 use Prim.Native.Nat.{_+_, _<_, _≤_, ℕ}
 use borrow.Author.Tests.{le-ltb, lt-ltb}
 use lib.ListN.{length, set, take}

@@ -1,6 +1,6 @@
 -- Assembling a text: 26 over the whole of it, then line by line.
 use Prim.Native.Nat.{ℕ, _+_, _-_}
-use mathlib.Core.List.{List, [], _∷_, _++_, map}
+use mathlib.Core.List.{List, [], _∷_, _++_}
 use mathlib.Core.Bool.{Bool}
 use lib.Dec.{eqb}
 use lib.ListN.{length, replicate}
@@ -10,7 +10,6 @@ use Rattle.base.specs.Told.{Told, is, no}
 use Rattle.text.specs.Lines.{lines, foreignLine}
 use Rattle.labels.specs.declared.Label.{Label}
 use Rattle.asm.specs.Reading.{read}
-use Rattle.labels.specs.Labels.{labelsOf}
 use Rattle.asm.specs.Work.{Task, task, Work, nothing, turn}
 use Rattle.asm.specs.declared.Assembled.{Assembled}
 use Rattle.asm.specs.declared.Assembled.the-variants as Assembled
@@ -36,9 +35,9 @@ ascii t line = cond (eqb line 0) (assembleFrom t (lines (t .text)) 0 0 nothing) 
 unfoldable pub assemble : Task → Outcome
 assemble t = ascii t (foreignLine 1 (t .text))
 
--- with arrays of these lengths for the words and for the three numbers of a label
-abbrev pub outcome : Bool → List ℕ → List ℕ → List ℕ → List ℕ → List ℕ → Outcome
-outcome strict text words places lengths addresses = assemble (task strict text (length words) (length (labelsOf places lengths addresses)))
+-- with room for so many words and labels
+abbrev pub outcome : Bool → List ℕ → ℕ → ℕ → Outcome
+outcome strict text wordRoom labelRoom = assemble (task strict text wordRoom labelRoom)
 
 -- a refusal leaves neither words nor labels
 abbrev pub wordsOf : Outcome → List ℕ

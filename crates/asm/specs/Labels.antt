@@ -20,7 +20,7 @@ part text place size = take size (drop place text)
 
 -- a later definition of a name overwrites its entry, place included; a new name is 27 where the table is full
 abbrev pub entered : ℕ → Label → List Label → Found → Told (List Label)
-entered room l labels (At i) = is (set labels i l)
+entered room l labels (At i a) = is (set labels i l)
 entered room l labels Nothing = cond (ltb (length labels) room) (is (labels ++ l ∷ [])) (no 27)
 
 unfoldable pub define : List ℕ → ℕ → Label → List Label → Told (List Label)

@@ -4,5 +4,4 @@ pub mod Labels
 pub mod Work
 pub mod Views
 pub mod Assemble
-pub mod Single
 pub mod Meaning

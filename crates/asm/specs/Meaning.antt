@@ -22,7 +22,6 @@ use Rattle.labels.specs.Labels.{names}
 use Rattle.labels.specs.Labels as Labels
 use Rattle.asm.specs.Labels.{part}
 use Rattle.asm.specs.Reading.{Item, skip, label, says, refers, read}
-use Rattle.asm.specs.Work.{addressIn}
 
 -- an item with its place counted from the start of the text
 abbrev pub placed : ℕ → Told Item → Item
@@ -127,5 +126,5 @@ definitions text = defined [] 0 (itemsFrom 0 (lines text))
 
 -- the address that a search of a label table leads to
 abbrev pub leadsTo : List Label → Found → Told ℕ
-leadsTo labels (At i) = is (addressIn labels i)
+leadsTo labels (At i a) = is a
 leadsTo labels Nothing = no 25

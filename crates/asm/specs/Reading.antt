@@ -13,8 +13,8 @@ use Rattle.parser.specs.declared.Reference.{Reference}
 use Rattle.parser.specs.Answers.{Meaning}
 use Rattle.parser.specs.Parse.{parse}
 use Rattle.parser.specs.Answers as Parse
-use Rattle.asm.specs.declared.reading.Line.{Line}
-use Rattle.asm.specs.declared.reading.Line.the-variants as Line
+use Rattle.asm.specs.declared.Line.{Line}
+use Rattle.asm.specs.declared.Line.the-variants as Line
 
 pub data Item : Type 0 where
   skip : Item

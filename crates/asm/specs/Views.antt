@@ -8,16 +8,17 @@ use lib.ListN.{take, set, getD}
 use Rattle.base.specs.Choice.{cond}
 use Rattle.base.specs.Numbers.{numberOf}
 use Rattle.base.specs.Told.{Told, is, no, _>>=_}
+use Rattle.base.specs.Words.{doubled}
 use Rattle.base.specs.declared.counts.InstructionIndex.{InstructionIndex}
 use Rattle.parser.specs.References.{resolved}
 use Rattle.labels.specs.declared.Label.{Label}
 use Rattle.labels.specs.declared.Open.{Open}
 use Rattle.labels.specs.declared.Found.{Found}
 use Rattle.labels.specs.declared.Found.the-variants.{Nothing, At}
-use Rattle.labels.specs.Labels.{names}
+use Rattle.labels.specs.Labels.{label, noLabel, names}
 use Rattle.labels.specs.Opens.{noOpen}
 use Rattle.asm.specs.Words.{wordOf}
-use Rattle.asm.specs.Labels.{Patched, patchedOf}
+use Rattle.asm.specs.Labels.{part, Patched, patchedOf}
 use Rattle.asm.specs.Work.{Work, work}
 use Rattle.asm.specs.Assemble.{Outcome, accepted, refused, report, answered, wordsOf, labelsLeft}
 use Rattle.asm.specs.declared.Assembled.{Assembled}
@@ -28,9 +29,11 @@ use Rattle.asm.specs.declared.labelling.Defined.{Defined}
 use Rattle.asm.specs.declared.labelling.Defined.the-variants as Defined
 use Rattle.asm.specs.declared.patching.Left.{Left}
 use Rattle.asm.specs.declared.patching.Left.the-variants as Left
-use Rattle.asm.specs.declared.turns.Counts.{Counts}
-use Rattle.asm.specs.declared.turns.Turn.{Turn}
-use Rattle.asm.specs.declared.turns.Turn.the-variants as Turn
+use Rattle.asm.specs.declared.Line.{Line}
+use Rattle.asm.specs.declared.Line.the-variants as Line
+use Rattle.asm.specs.declared.Counts.{Counts}
+use Rattle.asm.specs.declared.Turn.{Turn}
+use Rattle.asm.specs.declared.Turn.the-variants as Turn
 
 -- the words after an answer
 abbrev pub added : Added → List ℕ → Told (List ℕ)
@@ -44,12 +47,34 @@ nextOf (Added.Refused r) = 0
 
 -- where a definition goes, the first `count` entries being used, and how many are used after it
 abbrev pub slotOf : Found → ℕ → ℕ
-slotOf (At i) count = i
+slotOf (At i a) count = i
 slotOf Nothing count = count
 
 abbrev pub usedOf : Found → ℕ → ℕ → Told ℕ
-usedOf (At i) count room = is count
+usedOf (At i a) count room = is count
 usedOf Nothing count room = cond (ltb count room) (is (count + 1)) (no 27)
+
+-- of a line: the name that it looks up, where its label goes, and the label; past the table's end for a line that has none
+abbrev pub nameAt : List ℕ → ℕ → Line → List ℕ
+nameAt text at Line.Skip = part text 0 0
+nameAt text at (Line.Label start size) = part text (at + start) size
+nameAt text at (Line.Says i) = part text 0 0
+nameAt text at (Line.Refers r start size) = part text (at + start) size
+nameAt text at (Line.Refused r) = part text 0 0
+
+abbrev pub slotFor : Line → Found → ℕ → ℕ → ℕ
+slotFor Line.Skip f count most = most
+slotFor (Line.Label start size) f count most = slotOf f count
+slotFor (Line.Says i) f count most = most
+slotFor (Line.Refers r start size) f count most = most
+slotFor (Line.Refused r) f count most = most
+
+abbrev pub labelFor : Line → ℕ → ℕ → Label
+labelFor Line.Skip at words = noLabel
+labelFor (Line.Label start size) at words = label (at + start) size (doubled words)
+labelFor (Line.Says i) at words = noLabel
+labelFor (Line.Refers r start size) at words = noLabel
+labelFor (Line.Refused r) at words = noLabel
 
 -- the labels after an answer
 abbrev pub used : Defined → Told ℕ

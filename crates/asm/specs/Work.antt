@@ -2,7 +2,7 @@
 use Prim.Native.Nat.{ℕ, _+_}
 use mathlib.Core.List.{List, []}
 use mathlib.Core.Bool.{Bool}
-use lib.ListN.{length, getD}
+use lib.ListN.{length}
 use Rattle.base.specs.Told.{Told, is, no, _>>=_}
 use Rattle.base.specs.Words.{doubled}
 use Rattle.instruction.specs.declared.Instruction.{Instruction}
@@ -12,7 +12,7 @@ use Rattle.labels.specs.declared.Label.{Label}
 use Rattle.labels.specs.declared.Open.{Open}
 use Rattle.labels.specs.declared.Found.{Found}
 use Rattle.labels.specs.declared.Found.the-variants.{Nothing, At}
-use Rattle.labels.specs.Labels.{find, label, addressOf}
+use Rattle.labels.specs.Labels.{find, label}
 use Rattle.labels.specs.Opens.{openTo}
 use Rattle.asm.specs.Reading.{Item}
 use Rattle.asm.specs.Reading as Reading
@@ -53,12 +53,9 @@ opens t o w = do
   waiting ← addOpen o (w .waiting)
   is (work words (w .labels) waiting)
 
-abbrev pub addressIn : List Label → ℕ → ℕ
-addressIn labels i = addressOf (getD labels i (label 0 0 0))
-
 -- a label that is known gives its address; for another the reference stays open
 abbrev pub refersTo : Task → Reference → ℕ → ℕ → Work → Found → Told Work
-refersTo t r place size w (At i) = says t (resolved r (addressIn (w .labels) i)) w
+refersTo t r place size w (At i a) = says t (resolved r a) w
 refersTo t r place size w Nothing = opens t (openTo place size (length (w .words)) r) w
 
 unfoldable pub references : Task → Reference → ℕ → ℕ → Work → Told Work

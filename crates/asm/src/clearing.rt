@@ -12,13 +12,3 @@ pub fn clear_words(words: &mut [u16], from: usize)
         i += 1;
     }
 }
-
-pub fn clear_sizes(sizes: &mut [usize], from: usize)
-    ensures { λ _. ⌜ now (sizes .exit) ≡ filled (length (now (sizes .entry))) (take from (now (sizes .entry))) ⌝ }
-{
-    let mut i = from;
-    while i < sizes.len() {
-        sizes[i] = 0;
-        i += 1;
-    }
-}

@@ -1,19 +1,23 @@
-// The assembler: a text to words, plain or strict, and a single line to an instruction.
-mod assembling;
+// A line of assembly and what it does: to the words, to the labels, and to the references that wait for one. Plain or strict.
 mod clearing;
 mod encoding;
 mod labelling;
 mod patching;
 mod reading;
 mod referring;
-mod single;
 mod turns;
 mod words;
 
-pub use assembling::assemble;
+use base::InstructionIndex;
 use base::Refusal;
+pub use clearing::clear_words;
 use instruction::Instruction;
-pub use single::parse_assembly_line;
+pub use labelling::entry_for;
+use labels::Label;
+use parser::Reference;
+pub use reading::read_line;
+pub use turns::do_line;
+pub use turns::name_in;
 
 // The rules that a text is held to. Strict refuses an instruction whose word could not say what its line says.
 pub struct Rules {
@@ -28,8 +32,33 @@ pub enum Assembled {
     Refused(Refusal, usize),
 }
 
-// What reading a single line answers.
-pub enum LineAnswer {
-    Is(Instruction),
+// Places are counted from the start of the line.
+pub enum Line {
+    // empty, or a comment
+    Skip,
+    // where the name starts, and its length
+    Label(usize, usize),
+    Says(Instruction),
+    // and where the name starts that it waits for, and its length
+    Refers(Reference, usize, usize),
     Refused(Refusal),
+}
+
+// How many words, labels and open references there are.
+pub struct Counts {
+    pub words: InstructionIndex,
+    pub labels: usize,
+    pub waiting: usize,
+}
+
+// How many there are after a line, or the refusal.
+pub enum Turn {
+    Go(Counts),
+    Refused(Refusal),
+}
+
+// An entry of the label table: where it goes, and the label.
+pub struct Entry {
+    pub slot: usize,
+    pub label: Label,
 }

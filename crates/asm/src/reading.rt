@@ -3,28 +3,14 @@ ghost use mathlib.Core.Path.{_≡_};
 ghost use Prim.Native.Nat.{_+_, _≤_, _<_};
 ghost use lib.ListN.{length};
 ghost use Rattle.asm.specs.Reading.{toldItem, endOf, readTrimmed, read};
-use base::Refusal;
-use instruction::Instruction;
+use crate::Line;
 use parser::Parsed;
-use parser::Reference;
 use parser::parse;
 use text::drop_final;
 use text::past_blanks;
 use text::second_start;
 use text::token;
 use text::trim_end;
-
-// Places are counted from the start of the line.
-pub enum Line {
-    // empty, or a comment
-    Skip,
-    // where the name starts, and its length
-    Label(usize, usize),
-    Says(Instruction),
-    // and where the name starts that it waits for, and its length
-    Refers(Reference, usize, usize),
-    Refused(Refusal),
-}
 
 // A trimmed line with something on it, which starts at `at`.
 fn read_some(t: &[u8], at: usize) -> Line

@@ -1,26 +1,25 @@
 // A line that refers to a label.
 ghost use mathlib.Core.Path.{_≡_};
-ghost use Prim.Native.Nat.{_+_, _≤_};
-ghost use lib.ListN.{length};
-ghost use Rattle.labels.specs.Labels.{labelsOf};
+ghost use mathlib.Core.List.{List};
+ghost use Prim.Native.Nat.{ℕ, _≤_};
+ghost use lib.ListN.{length, take};
+ghost use Rattle.labels.specs.Labels.{find};
 ghost use Rattle.labels.specs.Opens.{opensOf, openTo};
 ghost use Rattle.labels.specs.declared.Label.{Label};
-ghost use mathlib.Core.List.{List};
+ghost use Rattle.asm.specs.Labels.{part};
 ghost use Rattle.asm.specs.Work.{Task, task, opens, references};
-ghost use Rattle.asm.specs.Views.{workOf, turned, wordsIn, labelsIn, waitingIn, Within};
+ghost use Rattle.asm.specs.Views.{workOf, turned, wordsIn, labelsIn, waitingIn};
+use crate::Counts;
 use crate::Rules;
+use crate::Turn;
 use crate::labelling::after;
 use crate::patching::add_open;
-use crate::turns::Counts;
-use crate::turns::Turn;
 use crate::turns::worded;
 use crate::words::Added;
 use crate::words::add_instruction;
 use crate::words::add_word;
 use labels::Found;
 use labels::Open;
-use labels::address_at;
-use labels::find;
 use parser::Reference;
 use parser::resolved;
 
@@ -61,44 +60,32 @@ fn open_reference(
     }
 }
 
+// With what was found of the name.
 pub fn refer(
     rules: Rules,
-    text: &[u8],
     reference: Reference,
     place: usize,
     size: usize,
+    f: Found,
     n: Counts,
     words: &mut [u16],
-    places: &[usize],
-    lengths: &[usize],
-    addresses: &[u16],
     o_places: &mut [usize],
     o_lengths: &mut [usize],
     o_words: &mut [u16],
     o_references: &mut [u8],
 ) -> Turn
-    requires { ⌜ place + size ≤ length (now text) ⌝ }
-    requires { ⌜ Within (n .words .0) (n .labels) (n .waiting) (length (now words)) (length (labelsOf (now places) (now lengths) (now addresses))) ⌝ }
+    requires { ⌜ (n .words .0 ≤ length (now words)) × (n .words .0 ≤ 32767) × (n .waiting ≤ 512) ⌝ }
     requires { ⌜ (length (now «o_places») ≡ 512) × (length (now «o_lengths») ≡ 512) × (length (now «o_words») ≡ 512) × (length (now «o_references») ≡ 512) ⌝ }
-    ensures { λ r. ⌜ turned r (now (words .exit)) (labelsOf (now (places .entry)) (now (lengths .entry)) (now (addresses .entry))) (opensOf (now («o_places» .exit)) (now («o_lengths» .exit)) (now («o_words» .exit)) (now («o_references» .exit)))
-        ≡ references (task (rules .strict) (now (text .entry)) (length (now (words .entry))) (length (labelsOf (now (places .entry)) (now (lengths .entry)) (now (addresses .entry))))) reference place size
-        (workOf n (now (words .entry)) (labelsOf (now (places .entry)) (now (lengths .entry)) (now (addresses .entry))) (opensOf (now («o_places» .entry)) (now («o_lengths» .entry)) (now («o_words» .entry)) (now («o_references» .entry)))) ⌝ }
-    ensures { λ r. ⌜ Within (wordsIn r) (labelsIn r) (waitingIn r) (length (now (words .entry))) (length (labelsOf (now (places .entry)) (now (lengths .entry)) (now (addresses .entry)))) ⌝ }
+    ensures { λ r. ⌜ ((text : List ℕ) → (ls : List Label) → (most : ℕ) → f ≡ find text (part text place size) (take (n .labels) ls) →
+        turned r (now (words .exit)) ls (opensOf (now («o_places» .exit)) (now («o_lengths» .exit)) (now («o_words» .exit)) (now («o_references» .exit)))
+        ≡ references (task (rules .strict) text (length (now (words .entry))) most) reference place size
+        (workOf n (now (words .entry)) ls (opensOf (now («o_places» .entry)) (now («o_lengths» .entry)) (now («o_words» .entry)) (now («o_references» .entry))))) ⌝ }
+    ensures { λ r. ⌜ (wordsIn r ≤ length (now (words .entry))) × (wordsIn r ≤ 32767) × (waitingIn r ≤ 512) × (labelsIn r ≤ n .labels) ⌝ }
 {
-    let past = place + size;
-    let f = find(
-        text,
-        places,
-        lengths,
-        addresses,
-        n.labels,
-        &text[place..past],
-    );
     match f {
-        Found::At(i) => {
+        Found::At(_, address) => {
             let here = n.words;
-            let instruction = resolved(reference, address_at(addresses, i));
-            let added = add_instruction(rules, words, here, instruction);
+            let added = add_instruction(rules, words, here, resolved(reference, address));
             worded(added, n)
         }
         Found::Nothing => open_reference(

@@ -1,5 +1,5 @@
--- What the crates above may use of the two tables, without opening the definitions: storing a field in each flat list is
--- storing an entry, and what is found is the first entry with the name. Assumes nothing.
+-- What the crates above may use of the two tables, without opening the definitions: what is found is the first entry with the name,
+-- and storing a field in each flat list is storing an open reference. Assumes nothing.
 use Prim.Native.Nat.{ℕ, zero, suc, _+_, _≤_, _<_, min}
 use mathlib.Core.Path.{_≡_, refl, sym, ap, _∙_}
 use mathlib.Core.Bool.{true, false}
@@ -12,108 +12,25 @@ use Rattle.parser.specs.declared.Reference.the-variants.{Jmp, CondJmp, Call}
 use Rattle.labels.specs.declared.Label.{Label}
 use Rattle.labels.specs.declared.Open.{Open}
 use Rattle.labels.specs.declared.Found.the-variants.{Nothing, At}
-use Rattle.labels.specs.Labels.{label, placeOf, lengthOf, addressOf, labelsOf, isNamed, find}
+use Rattle.labels.specs.Labels.{label, isNamed, find}
 use Rattle.labels.specs.Opens.{referenceCode, referenceOf, openTo, noOpen, opensOf}
 use Rattle.labels.proofs.ListLaws.{take-set, take-snoc, drop-next}
-use Rattle.labels.proofs.FindLaws.{found, passed}
-
--- ---- labels: how many there are
-
-pub labels-length : (ps ls ads : List ℕ) → length (labelsOf ps ls ads) ≡ min (length ps) (min (length ls) (length ads))
-unfolding labelsOf
-labels-length (p ∷ ps) (l ∷ ls) (a ∷ ads) = omega (arith, labels-length ps ls ads)
-labels-length (p ∷ ps) (l ∷ ls) [] = omega arith
-labels-length (p ∷ ps) [] ads = omega arith
-labels-length [] ls ads = omega arith
-
-module _ (ps ls ads : List ℕ) where
-  pub labels-in-places : length (labelsOf ps ls ads) ≤ length ps
-  labels-in-places = omega (arith, labels-length ps ls ads)
-
-  pub labels-in-lengths : length (labelsOf ps ls ads) ≤ length ls
-  labels-in-lengths = omega (arith, labels-length ps ls ads)
-
-  pub labels-in-addresses : length (labelsOf ps ls ads) ≤ length ads
-  labels-in-addresses = omega (arith, labels-length ps ls ads)
-
-  pub labels-full : (n : ℕ) → length ps ≡ n → length ls ≡ n → length ads ≡ n → length (labelsOf ps ls ads) ≡ n
-  labels-full n e f g = omega (arith, labels-length ps ls ads, e, f, g)
-
--- ---- labels: an entry stored, an entry read
-
-pub labels-set : (ps ls ads : List ℕ) (i p l a : ℕ) → labelsOf (set ps i p) (set ls i l) (set ads i a) ≡ set (labelsOf ps ls ads) i (label p l a)
-unfolding labelsOf
-labels-set (q ∷ ps) (m ∷ ls) (b ∷ ads) zero p l a = refl
-labels-set (q ∷ ps) (m ∷ ls) (b ∷ ads) (suc i) p l a = ap (λ (r : List Label). label q m b ∷ r) (labels-set ps ls ads i p l a)
-labels-set (q ∷ ps) (m ∷ ls) [] zero p l a = refl
-labels-set (q ∷ ps) (m ∷ ls) [] (suc i) p l a = refl
-labels-set (q ∷ ps) [] ads zero p l a = refl
-labels-set (q ∷ ps) [] ads (suc i) p l a = refl
-labels-set [] ls ads i p l a = refl
-
-pub labels-at : (ps ls ads : List ℕ) (i : ℕ) (d : Label) → i < length (labelsOf ps ls ads) → getD (labelsOf ps ls ads) i d ≡ label (getD ps i 0) (getD ls i 0) (getD ads i 0)
-unfolding labelsOf
-labels-at (p ∷ ps) (l ∷ ls) (a ∷ ads) zero d h = refl
-labels-at (p ∷ ps) (l ∷ ls) (a ∷ ads) (suc i) d h = labels-at ps ls ads i d (le-of-suc-le-suc h)
-labels-at (p ∷ ps) (l ∷ ls) [] i d h = absurd (not-suc-le-zero h)
-labels-at (p ∷ ps) [] ads i d h = absurd (not-suc-le-zero h)
-labels-at [] ls ads i d h = absurd (not-suc-le-zero h)
-
--- what `address_at` answers
-pub labels-address : (ps ls ads : List ℕ) (i : ℕ) (d : Label) → i < length (labelsOf ps ls ads) → getD ads i 0 ≡ addressOf (getD (labelsOf ps ls ads) i d)
-labels-address ps ls ads i d h = sym (ap addressOf (labels-at ps ls ads i d h))
-
--- `put_label` over one of the first n entries, and just after them
-module _ (ps ls ads : List ℕ) (n : ℕ) where
-  pub labels-put : (i p l a : ℕ) → take n (labelsOf (set ps i p) (set ls i l) (set ads i a)) ≡ set (take n (labelsOf ps ls ads)) i (label p l a)
-  labels-put i p l a = ap (take n) (labels-set ps ls ads i p l a) ∙ take-set n (labelsOf ps ls ads) i (label p l a)
-
-  pub labels-push : (p l a : ℕ) → n < length (labelsOf ps ls ads) →
-      take (n + 1) (labelsOf (set ps n p) (set ls n l) (set ads n a)) ≡ take n (labelsOf ps ls ads) ++ (label p l a ∷ [])
-  labels-push p l a h = ap (take (n + 1)) (labels-set ps ls ads n p l a) ∙ take-snoc (labelsOf ps ls ads) n (label p l a) h
-
--- ---- labels: the fields of the first k entries are the first k of each list; lists of zeros are entries of zeros
-
-pub labels-places : (ps ls ads : List ℕ) (k : ℕ) → k ≤ length (labelsOf ps ls ads) → map placeOf (take k (labelsOf ps ls ads)) ≡ take k ps
-unfolding labelsOf
-labels-places ps ls ads zero h = refl
-labels-places (p ∷ ps) (l ∷ ls) (a ∷ ads) (suc k) h = ap (λ (r : List ℕ). p ∷ r) (labels-places ps ls ads k (le-of-suc-le-suc h))
-labels-places (p ∷ ps) (l ∷ ls) [] (suc k) h = absurd (not-suc-le-zero h)
-labels-places (p ∷ ps) [] ads (suc k) h = absurd (not-suc-le-zero h)
-labels-places [] ls ads (suc k) h = absurd (not-suc-le-zero h)
-
-pub labels-lengths : (ps ls ads : List ℕ) (k : ℕ) → k ≤ length (labelsOf ps ls ads) → map lengthOf (take k (labelsOf ps ls ads)) ≡ take k ls
-unfolding labelsOf
-labels-lengths ps ls ads zero h = refl
-labels-lengths (p ∷ ps) (l ∷ ls) (a ∷ ads) (suc k) h = ap (λ (r : List ℕ). l ∷ r) (labels-lengths ps ls ads k (le-of-suc-le-suc h))
-labels-lengths (p ∷ ps) (l ∷ ls) [] (suc k) h = absurd (not-suc-le-zero h)
-labels-lengths (p ∷ ps) [] ads (suc k) h = absurd (not-suc-le-zero h)
-labels-lengths [] ls ads (suc k) h = absurd (not-suc-le-zero h)
-
-pub labels-addresses : (ps ls ads : List ℕ) (k : ℕ) → k ≤ length (labelsOf ps ls ads) → map addressOf (take k (labelsOf ps ls ads)) ≡ take k ads
-unfolding labelsOf
-labels-addresses ps ls ads zero h = refl
-labels-addresses (p ∷ ps) (l ∷ ls) (a ∷ ads) (suc k) h = ap (λ (r : List ℕ). a ∷ r) (labels-addresses ps ls ads k (le-of-suc-le-suc h))
-labels-addresses (p ∷ ps) (l ∷ ls) [] (suc k) h = absurd (not-suc-le-zero h)
-labels-addresses (p ∷ ps) [] ads (suc k) h = absurd (not-suc-le-zero h)
-labels-addresses [] ls ads (suc k) h = absurd (not-suc-le-zero h)
-
-pub labels-zero : (n : ℕ) → labelsOf (replicate n 0) (replicate n 0) (replicate n 0) ≡ replicate n (label 0 0 0)
-unfolding labelsOf
-labels-zero zero = refl
-labels-zero (suc n) = ap (λ (r : List Label). label 0 0 0 ∷ r) (labels-zero n)
+use Rattle.labels.proofs.FindLaws.{found, found-address, passed}
 
 -- ---- the first of equal names counts
 
-module _ (text name : List ℕ) (ls : List Label) (i : ℕ) (e : find text name ls ≡ At i) where
+module _ (text name : List ℕ) (ls : List Label) (i a : ℕ) (e : find text name ls ≡ At i a) where
   pub find-lt : i < length ls
-  find-lt = found text name ls i e .lt
+  find-lt = found text name ls i a e .lt
 
   pub find-named : (d : Label) → isNamed text name (getD ls i d) ≡ true
-  find-named d = found text name ls i e .named d
+  find-named d = found text name ls i a e .named d
 
   pub find-first : (j : ℕ) (d : Label) → j < i → isNamed text name (getD ls j d) ≡ false
-  find-first j d h = found text name ls i e .earlier j d h
+  find-first j d h = found text name ls i a e .earlier j d h
+
+  pub find-address : (d : Label) → getD ls i d .address ≡ a
+  find-address d = found-address text name ls i a e d
 
 pub find-nothing : (text name : List ℕ) (ls : List Label) → find text name ls ≡ Nothing → (j : ℕ) (d : Label) → j < length ls → isNamed text name (getD ls j d) ≡ false
 unfolding find

@@ -1,15 +1,11 @@
-// The assembler's two tables of names, as flat lent arrays: labels with their addresses, and references that wait for a label.
+// What the assembler knows by name: labels with their addresses, and references that wait for a label, kept in flat lent arrays.
 // A name is the part of a text from `place` on, `length` bytes long. Arrays may have any lengths: a table has as many entries
-// as the shortest of its arrays.
+// as the shortest of its arrays. The table of labels itself is the crate `table`'s.
 mod arrays;
 mod entries;
 mod opens;
 
-pub use entries::address_at;
-pub use entries::find;
 pub use entries::names;
-pub use entries::put_label;
-pub use entries::room;
 pub use opens::open_at;
 pub use opens::open_room;
 pub use opens::put_open;
@@ -30,8 +26,8 @@ pub struct Open {
     pub reference: Reference,
 }
 
-// Which entry has a name.
+// Which entry has a name, and the entry's address.
 pub enum Found {
     Nothing,
-    At(usize),
+    At(usize, u16),
 }

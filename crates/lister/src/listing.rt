@@ -4,7 +4,7 @@ use crate::lines::refusal;
 use crate::lines::totals;
 use asm::Assembled;
 use asm::Rules;
-use asm::assemble;
+use assembler::assemble_words;
 use base::Refusal;
 use base::number;
 use printer::Printed;
@@ -16,7 +16,7 @@ ghost use Rattle.lister.specs.Listing.{outcome, listing, listed, listedB
 ghost use Rattle.lister.specs.Parts.{Tells, shownOf, wordCount};
 ghost use Rattle.lister.specs.Pen.{pen, wrote};
 
-// Assembles strictly; 19 comes before anything is read.
+// Assembles strictly, with 1,024 label entries; 19 comes before anything is read.
 fn assembled(text: &[u8], words: &mut [u16]) -> Assembled
     requires { ⌜ length (now words) ≡ 32767 ⌝ }
     ensures { λ r. ⌜ Tells r (now (words .exit)) (outcome (now (text .entry))) ⌝ }
@@ -24,18 +24,8 @@ fn assembled(text: &[u8], words: &mut [u16]) -> Assembled
     if 65536 < text.len() {
         return Assembled::Refused(Refusal::NoRoom, 0);
     }
-    let mut places = [0usize; 1024];
-    let mut lengths = [0usize; 1024];
-    let mut addresses = [0u16; 1024];
     let rules = Rules { strict: true };
-    assemble(
-        rules,
-        text,
-        words,
-        &mut places,
-        &mut lengths,
-        &mut addresses,
-    )
+    assemble_words(rules, text, words)
 }
 
 // The listing from byte 0 on.

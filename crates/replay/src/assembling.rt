@@ -2,6 +2,7 @@
 use crate::answers::Said;
 use crate::answers::refused;
 use crate::answers::say;
+use crate::label_tables;
 use crate::output;
 use crate::parse::NOWHERE;
 use crate::parse::named;
@@ -115,13 +116,14 @@ fn assembled(
     let mut place = [7usize; 1100];
     let mut length = [7usize; 1100];
     let mut address = [7u16; 1100];
-    let r = asm::assemble(
+    let r = label_tables::assembled(
         Rules { strict },
         text,
         &mut word[0..words],
-        &mut place[0..labels],
-        &mut length[0..labels],
-        &mut address[0..labels],
+        labels,
+        &mut place,
+        &mut length,
+        &mut address,
     );
     shown(r, &word, words, &place, &length, &address, labels, out, p)
 }

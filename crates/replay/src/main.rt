@@ -10,6 +10,7 @@ mod dumps;
 mod input;
 mod instructions;
 mod journals;
+mod label_tables;
 mod listings;
 mod loads;
 mod machines;

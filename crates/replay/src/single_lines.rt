@@ -2,14 +2,15 @@
 use crate::answers::Said;
 use crate::answers::refused;
 use crate::answers::say;
+use crate::label_tables;
 use crate::output;
 use crate::parse::WordList;
 use crate::parse::entry;
 use crate::texts::hex_text;
 use crate::texts::unhex;
-use asm::LineAnswer;
 use instruction::Instruction;
 use printer::Printed;
+use single::LineAnswer;
 ghost use Prim.Native.Nat.{_≤_};
 ghost use lib.ListN.{length};
 
@@ -102,7 +103,7 @@ fn parsed_with(
     if addresses.len() < n {
         return Spelt::Bad;
     }
-    let a = asm::parse_assembly_line(code, names, &places[0..n], &lengths[0..n], &addresses[0..n]);
+    let a = label_tables::parsed(code, names, &places[0..n], &lengths[0..n], &addresses[0..n]);
     spell_answer(a, text)
 }
 

@@ -8,7 +8,6 @@ mod tokens;
 use base::Refusal;
 pub use blanks::past_blanks;
 pub use immediates::parse_immediate;
-pub use lines::foreign_line;
 pub use lines::line_end;
 pub use parts::drop_final;
 pub use parts::drop_leading;

@@ -12,7 +12,7 @@ use Rattle.base.specs.Told.{is, no}
 use Rattle.labels.proofs.Laws.{opens-full}
 use Rattle.labels.specs.Opens.{openTo, opensOf}
 use Rattle.asm.specs.declared.words.Added.{Added}
-use Rattle.asm.specs.declared.turns.Turn.{Turn}
+use Rattle.asm.specs.declared.Turn.{Turn}
 use Rattle.asm.proofs.referring.open_reference.Statement.{statement}
 use Rattle.asm.proofs.referring.open_reference.Tie as tie
 

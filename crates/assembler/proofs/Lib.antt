@@ -1,0 +1,5 @@
+mod LineLaws
+mod Shared
+pub mod LoopLaws
+pub mod Saying
+pub mod TextLaws

@@ -1,0 +1,4 @@
+pub mod Apart
+pub mod LineLaws
+pub mod Search
+pub mod Told
