@@ -5,7 +5,7 @@ use Prim.Native.Nat.{ℕ}
 use lib.ListN.{getD}
 use Rattle.base.specs.Numbers.{numberOf, answerNumber}
 use Rattle.base.specs.declared.refusals.Refusal.{Refusal}
-use Rattle.base.specs.declared.refusals.Refusal.the-variants.{BadState, FetchUnmapped, AddressOverflow, BadOpcode, BadCompare, BadArith, ArithOverflow, DivideByZero, PcOverflow, NothingToUndo, BadJournal, RangeOverflow, Overlap, TableFull, WriteFailed, TooLong, NoDeviceRoom, BadRegister, NoRoom, InvalidRegister, InvalidOperands, InvalidInstruction, InvalidFormat, InvalidImmediate, UnresolvedLabel, NotAscii, TooManyLabels, TooManyFixups, ProgramFull, FieldTooWide}
+use Rattle.base.specs.declared.refusals.Refusal.the-variants.{BadState, FetchUnmapped, AddressOverflow, BadOpcode, BadCompare, BadArith, ArithOverflow, DivideByZero, PcOverflow, NothingToUndo, BadJournal, RangeOverflow, Overlap, TableFull, WriteFailed, TooLong, NoDeviceRoom, BadRegister, NoRoom, InvalidRegister, InvalidOperands, InvalidInstruction, InvalidFormat, InvalidImmediate, UnresolvedLabel, NotAscii, TooManyLabels, TooManyFixups, ProgramFull, FieldTooWide, BadBlock}
 use Rattle.base.specs.declared.refusals.Answer.{Answer}
 use Rattle.base.specs.declared.refusals.Answer.the-variants.{Accepted, Refused}
 
@@ -16,7 +16,8 @@ refusals =
     ArithOverflow ∷ DivideByZero ∷ PcOverflow ∷ NothingToUndo ∷ BadJournal ∷ RangeOverflow ∷
     Overlap ∷ TableFull ∷ WriteFailed ∷ TooLong ∷ NoDeviceRoom ∷ BadRegister ∷
     NoRoom ∷ InvalidRegister ∷ InvalidOperands ∷ InvalidInstruction ∷ InvalidFormat ∷ InvalidImmediate ∷
-    UnresolvedLabel ∷ NotAscii ∷ TooManyLabels ∷ TooManyFixups ∷ ProgramFull ∷ FieldTooWide ∷ []
+    UnresolvedLabel ∷ NotAscii ∷ TooManyLabels ∷ TooManyFixups ∷ ProgramFull ∷ FieldTooWide ∷
+    BadBlock ∷ []
 
 -- the answer of a number
 answers : List Answer
@@ -54,6 +55,7 @@ found TooManyLabels = refl
 found TooManyFixups = refl
 found ProgramFull = refl
 found FieldTooWide = refl
+found BadBlock = refl
 
 back : (a : Answer) → getD answers (answerNumber a) Accepted ≡ a
 unfolding answers

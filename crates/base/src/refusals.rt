@@ -1,4 +1,4 @@
-// The refusals of document 01, in its order. specs/Numbers.antt gives the number of each.
+// The refusals: document 01's in its order, then document 02's. specs/Numbers.antt gives the number of each.
 ghost use mathlib.Core.Path.{_≡_};
 ghost use Rattle.base.specs.Numbers.{numberOf};
 
@@ -33,6 +33,7 @@ pub enum Refusal {
     TooManyFixups,
     ProgramFull,
     FieldTooWide,
+    BadBlock,
 }
 
 // What an entry that hands back nothing but its verdict answers.
@@ -41,7 +42,7 @@ pub enum Answer {
     Refused(Refusal),
 }
 
-// The number that document 01 gives a refusal.
+// The number that the documents give a refusal.
 pub fn number(r: Refusal) -> u8
     ensures { λ n. ⌜ n ≡ numberOf r ⌝ }
 {
@@ -76,5 +77,6 @@ pub fn number(r: Refusal) -> u8
         Refusal::TooManyFixups => 28,
         Refusal::ProgramFull => 29,
         Refusal::FieldTooWide => 30,
+        Refusal::BadBlock => 31,
     }
 }

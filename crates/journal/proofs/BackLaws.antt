@@ -95,6 +95,11 @@ module _ (w : Whole) where
   unfolding undone
   back-journal = every-back (λ (x : Answered). x .whole .journal ≡ w .journal) (λ n k. refl) (λ h k. refl)
 
+  -- tables
+  pub back-map : stepBack w .whole .state .machine .map ≡ w .state .machine .map
+  unfolding undone
+  back-map = every-back (λ (x : Answered). x .whole .state .machine .map ≡ w .state .machine .map) (λ n k. refl) (λ h k. refl)
+
   -- eight registers
   pub back-eight-kept : length (w .state .machine .registers .value) ≡ 8 → length (stepBack w .whole .state .machine .registers .value) ≡ 8
   unfolding undone newest

@@ -4,6 +4,7 @@ pub mod UndoLaws
 pub mod BackLaws
 pub mod BackCases
 pub mod Demand
+pub mod WalkLaws
 pub mod TakenLaws
 pub mod RunTurns
 pub mod RunLaws

@@ -18,6 +18,7 @@ use Rattle.machine.specs.Step as machine
 use Rattle.memory.specs.Bytes.{get, put, placeIn, targetIn, readByte, takes, storeByte}
 use Rattle.memory.specs.Bytes as bytes
 use Rattle.memory.specs.Words.{readWord, readHigh, joined, wordDecision, bothDecision, highDecision, made}
+use Rattle.wordbytes.specs.Words as words
 use Rattle.records.specs.Records as records
 use Rattle.records.specs.Slots.{room, recordAt, filled, slotAfter, slotBefore}
 use Rattle.journal.specs.States.{nextIn, valid}
@@ -31,12 +32,12 @@ unfolding step valid nextIn room machines.valid tables.valid tables.validRegions
     taken machine.step isAccepted machine.committed plan registers.flag registers.get flags.flag
     fetched readWord readHigh joined readByte placeIn place placeFrom inLinear get bytes.answered reached decoded decode arm arms
     act ldrStr wordAt storing ended wordDecision bothDecision highDecision target guard somewhere protected finished raised registers.put made put
-    recordOf replaced byteOf advanced noted filled records.encode records.words slotAfter
+    recordOf replaced byteOf advanced noted filled records.encode words.bytesOf slotAfter
 marked-step = refl
 
 pub marked-back : back.stepBack stored ≡ back.answered 0 restored
 unfolding back.stepBack valid nextIn room machines.valid tables.valid tables.validRegions any spareRegions regionIsSet sound usedRegions
     tables.validDevices spareDevices deviceIsSet usedDevices total
-    back.undoing back.fits back.usedBy back.newest recordAt records.decode records.wordsFrom slotBefore
+    back.undoing back.fits back.usedBy back.newest recordAt records.decode words.wordsFrom slotBefore
     takes targetIn place placeFrom inLinear target guard somewhere protected back.restored back.undone storeByte put
 marked-back = refl

@@ -148,6 +148,15 @@ module _ (w : Whole) where
       Eight : Whole → Type 0
       Eight v = length (v .state .machine .registers .value) ≡ 8
 
+  -- tables
+  pub step-map : step w .whole .state .machine .map ≡ w .state .machine .map
+  step-map =
+      let k = machine-laws.step-map (w .state .machine) (w .bytes) in
+      every-step Same refl (λ e. accepted-step e Same (λ z. k) (λ n. k))
+    where
+      Same : Whole → Type 0
+      Same v = v .state .machine .map ≡ w .state .machine .map
+
   -- the journal's room
   pub filled-room : length (w .state .machine .registers .value) ≡ 8 → validWhole w ≡ true → 0 < room (w .journal)
       → room (filled (w .journal) (w .state .next) (ownRecord w)) ≡ room (w .journal)

@@ -10,39 +10,31 @@ use lib.Seq.{take-at, drop-at, length-take-le, take-take, drop-drop}
 use borrow.Author.Tests.{ltb-true, ltb-false}
 use native.Mathlib.Nat.{mod-add-div}
 use native.Mathlib.Omega.{arith}
+use Rattle.wordbytes.specs.Words.{bytesOf, wordsFrom}
+use Rattle.wordbytes.proofs.Laws.{length-bytes, length-words, words-back}
 use Rattle.records.specs.declared.Record.{Record}
-use Rattle.records.specs.Records.{words, wordsFrom, oldBytes, encode, decode}
+use Rattle.records.specs.Records.{oldBytes, encode, decode}
 use Rattle.records.specs.Slots.{room, recordAt, filled}
 
 -- ---- a record's bytes
 
-pub length-words : (ws : List ℕ) → length (words ws) ≡ 2 * length ws
-unfolding words
-length-words [] = refl
-length-words (w ∷ ws) = omega (arith, length-words ws)
-
-words-back : (ws l : List ℕ) → wordsFrom (length ws) (words ws ++ l) ≡ ws
-unfolding words wordsFrom
-words-back [] l = refl
-words-back (w ∷ ws) l = rw (mod-add-div w 256, words-back ws l)
-
 pub length-encode : (r : Record) → length (r .registers) ≡ 8 → length (encode r) ≡ 23
 unfolding encode
-length-encode r e = simp (length-append, length-words, e)
+length-encode r e = simp (length-append, length-bytes, e)
 
 pub decode-encode : (r : Record) → length (r .registers) ≡ 8 → decode (encode r) ≡ r
 unfolding encode decode
 decode-encode r e =
     let t = oldBytes (r .first) ++ oldBytes (r .second) in
-    let n : length (words (r .registers)) ≡ 16 = length-words (r .registers) ∙ ap (λ (k : ℕ). 2 * k) e in
-    let u : wordsFrom 8 (words (r .registers) ++ t) ≡ r .registers = rw (← e) (words-back (r .registers) t) in
-    let v : drop 19 (words (r .registers) ++ t) ≡ oldBytes (r .second) = sym (drop-drop 3 16 (words (r .registers) ++ t)) ∙ ap (drop 3) (drop-at (words (r .registers)) t 16 n) in
-    rw (drop-at (words (r .registers)) t 16 n, v, u, mod-add-div (r .first .address) 256, mod-add-div (r .second .address) 256)
+    let n : length (bytesOf (r .registers)) ≡ 16 = length-bytes (r .registers) ∙ ap (λ (k : ℕ). 2 * k) e in
+    let u : wordsFrom 8 (bytesOf (r .registers) ++ t) ≡ r .registers = rw (← e) (words-back (r .registers) t) in
+    let v : drop 19 (bytesOf (r .registers) ++ t) ≡ oldBytes (r .second) = sym (drop-drop 3 16 (bytesOf (r .registers) ++ t)) ∙ ap (drop 3) (drop-at (bytesOf (r .registers)) t 16 n) in
+    rw (drop-at (bytesOf (r .registers)) t 16 n, v, u, mod-add-div (r .first .address) 256, mod-add-div (r .second .address) 256)
 
 -- whatever the bytes are, eight registers are read
 pub record-eight : (l : List ℕ) (k : ℕ) → length (recordAt l k .registers) ≡ 8
-unfolding recordAt decode wordsFrom
-record-eight l k = refl
+unfolding recordAt decode
+record-eight l k = length-words 8 _
 
 -- ---- slots
 

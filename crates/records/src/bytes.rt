@@ -1,18 +1,14 @@
 // A record as 23 bytes: numbers low byte first.
 use crate::Old;
 use crate::Record;
+use wordbytes::put_eight;
+use wordbytes::put_word;
+use wordbytes::word_at;
 ghost use mathlib.Core.Path.{_≡_};
 ghost use lib.ListN.{length};
 ghost use lib.Seq.{sets};
-ghost use Prim.Native.Nat.{_+_, _<_, _≤_};
-ghost use Rattle.records.specs.Records.{wordBytes, words, oldBytes, wordAt, encode, decode};
-
-fn word_at(bytes: &[u8], i: usize) -> u16
-    requires { ⌜ i + 1 < length (now bytes) ⌝ }
-    ensures { λ w. ⌜ w ≡ wordAt (now (bytes .entry)) i ⌝ }
-{
-    base::word(bytes[i], bytes[i + 1])
-}
+ghost use Prim.Native.Nat.{_+_, _≤_};
+ghost use Rattle.records.specs.Records.{oldBytes, encode, decode};
 
 // The record of 23 bytes.
 pub fn decode(bytes: &[u8]) -> Record
@@ -42,15 +38,6 @@ pub fn decode(bytes: &[u8]) -> Record
     }
 }
 
-// Writes a number over two bytes, from byte i on.
-fn put_word(bytes: &mut [u8], i: usize, w: u16)
-    requires { ⌜ i + 1 < length (now bytes) ⌝ }
-    ensures { λ _. ⌜ now (bytes .exit) ≡ sets (now (bytes .entry)) i (wordBytes w) ⌝ }
-{
-    bytes[i] = base::low(w);
-    bytes[i + 1] = base::high(w);
-}
-
 // Writes an address and the old byte at it over three bytes.
 fn put_old(bytes: &mut [u8], i: usize, o: Old)
     requires { ⌜ i + 3 ≤ length (now bytes) ⌝ }
@@ -60,18 +47,6 @@ fn put_old(bytes: &mut [u8], i: usize, o: Old)
     bytes[i + 2] = o.byte;
 }
 
-// Writes eight registers over sixteen bytes.
-fn put_registers(bytes: &mut [u8], i: usize, g: [u16; 8])
-    requires { ⌜ i + 16 ≤ length (now bytes) ⌝ }
-    ensures { λ _. ⌜ now (bytes .exit) ≡ sets (now (bytes .entry)) i (words g) ⌝ }
-{
-    let mut n: usize = 0;
-    while n < 8 {
-        put_word(bytes, i + 2 * n, g[n]);
-        n += 1;
-    }
-}
-
 // Writes a record over 23 bytes.
 pub fn encode(bytes: &mut [u8], i: usize, r: Record)
     requires { ⌜ i + 23 ≤ length (now bytes) ⌝ }
@@ -79,7 +54,7 @@ pub fn encode(bytes: &mut [u8], i: usize, r: Record)
 {
     let g = r.registers;
     bytes[i] = r.kind;
-    put_registers(bytes, i + 1, g);
+    put_eight(bytes, i + 1, g);
     put_old(bytes, i + 17, r.first);
     put_old(bytes, i + 20, r.second);
 }

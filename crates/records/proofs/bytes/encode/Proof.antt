@@ -10,11 +10,11 @@ use Rattle.records.proofs.bytes.encode.Tie as tie
 slice-write-bytes : tie.Need-slice-write-bytes
 slice-write-bytes c = search needs
 
-add-put-registers : tie.Need-add-put-registers
-add-put-registers c = search needs
+add-put-eight : tie.Need-add-put-eight
+add-put-eight c = search needs
 
-put-registers-requires : tie.Need-put-registers-requires
-put-registers-requires c κs =
+put-eight-requires : tie.Need-put-eight-requires
+put-eight-requires c κs =
     let s = c .before .before .before .args in
     omega (arith, c .before .before .before .pre, length-set (s .bytes .now) (s .i) (s .r .kind))
 
@@ -24,7 +24,7 @@ add-put-old c = search needs
 put-old-requires : tie.Need-put-old-requires
 put-old-requires c κs =
     let s = c .before .before .before .before .before .before .before .args in
-    omega (arith, c .before .before .before .before .before .before .before .pre, c .before .before .before .put-registers .kept .0 ∙ length-set (s .bytes .now) (s .i) (s .r .kind))
+    omega (arith, c .before .before .before .before .before .before .before .pre, c .before .before .before .put-eight .kept .0 ∙ length-set (s .bytes .now) (s .i) (s .r .kind))
 
 add-put-old-2 : tie.Need-add-put-old-2
 add-put-old-2 c = search needs
@@ -32,21 +32,21 @@ add-put-old-2 c = search needs
 put-old-requires-2 : tie.Need-put-old-requires-2
 put-old-requires-2 c κs =
     let s = c .before .before .before .before .before .before .before .before .before .before .before .args in
-    omega (arith, c .before .before .before .before .before .before .before .before .before .before .before .pre, c .before .before .before .put-old .kept .0 ∙ c .before .before .before .before .before .before .before .put-registers .kept .0 ∙ length-set (s .bytes .now) (s .i) (s .r .kind))
+    omega (arith, c .before .before .before .before .before .before .before .before .before .before .before .pre, c .before .before .before .put-old .kept .0 ∙ c .before .before .before .before .before .before .before .put-eight .kept .0 ∙ length-set (s .bytes .now) (s .i) (s .r .kind))
 
 same-length : tie.Need-same-length
 same-length c =
     let s = c .before .before .before .before .before .before .before .before .before .before .before .before .before .before .args in
     c .before .before .put-old2 .kept .0
     ∙ c .before .before .before .before .before .before .put-old .kept .0
-    ∙ c .before .before .before .before .before .before .before .before .before .before .put-registers .kept .0 ∙ length-set (s .bytes .now) (s .i) (s .r .kind)
+    ∙ c .before .before .before .before .before .before .before .before .before .before .put-eight .kept .0 ∙ length-set (s .bytes .now) (s .i) (s .r .kind)
 
 returns : tie.Need-returns
 returns c =
     let s = c .before .before .before .before .before .before .before .before .before .before .before .before .before .before .args in
     let e : length (s .r .registers) ≡ 8 = search needs in
     c .before .before .put-old2 .ensures
-    ∙ rw (c .before .before .before .before .before .before .put-old .ensures, c .before .before .before .before .before .before .before .before .before .before .put-registers .ensures)
+    ∙ rw (c .before .before .before .before .before .before .put-old .ensures, c .before .before .before .before .before .before .before .before .before .before .put-eight .ensures)
     (encode-parts (s .bytes .now) (s .i) (s .r) e)
 
 pub encode-spec : {M : Type 1} → statement M
@@ -54,8 +54,8 @@ encode-spec =
     tie.close
     (tie.spec
     slice-write-bytes
-    add-put-registers
-    put-registers-requires
+    add-put-eight
+    put-eight-requires
     add-put-old
     put-old-requires
     add-put-old-2

@@ -2,8 +2,8 @@
 use Prim.Native.Nat.{_+_}
 use mathlib.Core.Path.{refl}
 use mathlib.Core.List.{[], _∷_}
-use Rattle.records.specs.Records.{wordBytes}
-use Rattle.records.proofs.Parts.{sets-next}
+use Rattle.wordbytes.specs.Words.{wordBytes}
+use Rattle.wordbytes.proofs.Parts.{sets-next}
 use borrow.Author.Needs.{needs}
 use Rattle.records.proofs.bytes.put_old.Statement.{statement}
 use Rattle.records.proofs.bytes.put_old.Tie as tie

@@ -1,8 +1,8 @@
 -- The two bytes are written one after the other. Assumes nothing.
 use native.Mathlib.Numerals.{add-one}
 use borrow.Author.Needs.{needs}
-use Rattle.records.proofs.bytes.put_word.Statement.{statement}
-use Rattle.records.proofs.bytes.put_word.Tie as tie
+use Rattle.wordbytes.proofs.places.put_word.Statement.{statement}
+use Rattle.wordbytes.proofs.places.put_word.Tie as tie
 
 low-requires : tie.Need-low-requires
 low-requires c κs = search needs

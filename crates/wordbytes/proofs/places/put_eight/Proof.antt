@@ -1,23 +1,23 @@
--- So far the first n registers are written. Assumes nothing.
+-- So far the first n words are written. Assumes nothing.
 use Prim.Native.Nat.{_-_, _<_, _≤_}
 use mathlib.Core.Path.{_≡_, refl, _∙_}
 use lib.ListN.{length, take}
 use lib.Seq.{sets, take-all}
 use native.Mathlib.Omega.{arith}
-use Rattle.records.specs.Records.{words}
-use Rattle.records.proofs.Parts.{register-next}
+use Rattle.wordbytes.specs.Words.{bytesOf}
+use Rattle.wordbytes.proofs.Parts.{word-next}
 use borrow.Author.Needs.{needs}
-use Rattle.records.proofs.bytes.put_registers.Statement.{statement}
-use Rattle.records.proofs.bytes.put_registers.Tie as tie
+use Rattle.wordbytes.proofs.places.put_eight.Statement.{statement}
+use Rattle.wordbytes.proofs.places.put_eight.Tie as tie
 
 abbrev Inv-loop : tie.InvT-loop
-Inv-loop bytes₀ i g n₀ bytes n = (n ≤ 8) × (length bytes ≡ length bytes₀) × (bytes ≡ sets bytes₀ i (words (take n g)))
+Inv-loop bytes₀ i g n₀ bytes n = (n ≤ 8) × (length bytes ≡ length bytes₀) × (bytes ≡ sets bytes₀ i (bytesOf (take n g)))
 
 abbrev μ-loop : tie.MeasureT-loop
 μ-loop bytes₀ i g n₀ bytes n = 8 - n
 
 loop-holds : tie.Need-loop-holds Inv-loop μ-loop
-unfolding words
+unfolding bytesOf
 loop-holds c = (omega arith, refl, refl)
 
 mul-put-word : tie.Need-mul-put-word Inv-loop μ-loop
@@ -48,7 +48,7 @@ loop-again c =
     let l : h .n < length (s .t3) = search needs in (
       search needs,
       c .before .before .put-word .kept .0 ∙ h .inv .1,
-      c .before .before .put-word .ensures ∙ rw (h .inv .2) (register-next (s .bytes .now) (s .i) (s .t3) (h .n) l),
+      c .before .before .put-word .ensures ∙ rw (h .inv .2) (word-next (s .bytes .now) (s .i) (s .t3) (h .n) l),
     )
 
 same-length : tie.Need-same-length Inv-loop μ-loop
@@ -60,8 +60,8 @@ returns c =
     let e : length (s .t3) ≤ c .before .loop .n = search needs in
     c .before .loop .inv .2 ∙ rw (take-all _ _ e)
 
-pub put-registers-spec : {M : Type 1} → statement M
-put-registers-spec =
+pub put-eight-spec : {M : Type 1} → statement M
+put-eight-spec =
     tie.close
     (tie.spec
     Inv-loop
