@@ -1,9 +1,9 @@
 -- Zeros one after another: what is left of an array, filled up from i on, stays the same when a zero is put at i. Assumes nothing.
 use Prim.Native.Nat.{_+_, _-_, _<_, _≤_, suc, ℕ}
-use lib.ListN.{length, length-append, length-set, replicate, set, take}
+use lib.ListN.{length, length-append, length-replicate, length-set, replicate, replicate-append-replicate, set, take}
 use lib.Seq.{length-take-le, take-all, take-append-seam}
 use mathlib.Core.List.{List, [], _++_, _∷_, append-assoc, append-nil}
-use mathlib.Core.Path.{_∙_, _≡_}
+use mathlib.Core.Path.{_∙_, _≡_, refl, sym}
 use native.Mathlib.Numerals.{add-one}
 use native.Mathlib.Omega.{arith}
 use Rattle.asm.specs.Assemble.{filled}
@@ -34,3 +34,19 @@ filled-first room ns = take-append-seam ns (replicate (room - length ns) 0)
 pub filled-length : (room : ℕ) (ns : List ℕ) → length ns ≤ length (filled room ns)
 unfolding filled
 filled-length room ns = rw length-append (omega arith)
+
+pub filled-parts : (room : ℕ) (ns : List ℕ) → filled room ns ≡ ns ++ replicate (room - length ns) 0
+unfolding filled
+filled-parts room ns = refl
+
+pub filled-exact : (room : ℕ) (ns : List ℕ) → length ns ≤ room → length (filled room ns) ≡ room
+unfolding filled
+filled-exact room ns h = rw (length-append, length-replicate) (omega arith)
+
+-- with more room there are more zeros
+pub filled-more : (room more : ℕ) (ns : List ℕ) → length ns ≤ room → room ≤ more → filled more ns ≡ filled room ns ++ replicate (more - room) 0
+unfolding filled
+filled-more room more ns h k =
+    let e : room - length ns + (more - room) ≡ more - length ns = omega arith in
+    sym (append-assoc ns (replicate (room - length ns) 0) (replicate (more - room) 0)
+    ∙ rw (replicate-append-replicate {A = ℕ} (room - length ns) (more - room) 0, e))

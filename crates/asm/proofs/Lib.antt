@@ -16,3 +16,4 @@ pub mod Patches
 pub mod Meanings
 pub mod Decoding
 pub mod Sound
+pub mod Rooms

@@ -9,8 +9,8 @@ use lib.ListN.{length, getD, take}
 use borrow.Author.Tests.{leb-true, ltb-true, le-leb, lt-ltb, le-ltb, lt-leb, not-true}
 use Rattle.base.specs.Choice.{cond}
 use Rattle.map.specs.Tables.{any, sound}
-use Rattle.map.specs.Regions.{regionsOverlap, regionIsSet, usedRegions, spareRegions, protected}
-use Rattle.map.specs.Devices.{deviceCovers, deviceIsSet, usedDevices, spareDevices, total}
+use Rattle.map.specs.Regions.{regionsOverlap, regionInRange, regionIsSet, usedRegions, spareRegions, protected}
+use Rattle.map.specs.Devices.{deviceCovers, devicesOverlap, deviceForward, deviceIsSet, usedDevices, spareDevices, total}
 use Rattle.map.specs.Places.{inLinear, placeFrom, place, guard, target, somewhere, linearByte, linearWord}
 use Rattle.map.specs.Valid.{validRegions, validDevices, valid}
 use Rattle.map.specs.Entries.{device, emptyMap, regionNumber}
@@ -129,6 +129,19 @@ module _ (m : Map) (dev : List ℕ) (v : valid m dev ≡ true) where
   pub valid-room : total (usedDevices m) ≤ length dev
   unfolding valid
   valid-room = leb-true (total (usedDevices m)) (length dev) (third (validRegions m) (validDevices m) (leb (total (usedDevices m)) (length dev)) v)
+
+  -- at most eight entries of each table are in use
+  pub few-regions : m .regions ≤ 8
+  unfolding validRegions
+  few-regions =
+      let spare = not (any regionIsSet (spareRegions m)) in
+      leb-true (m .regions) 8 (first (leb (m .regions) 8) spare (sound regionInRange regionsOverlap (usedRegions m)) valid-regions)
+
+  pub few-devices : m .devices ≤ 8
+  unfolding validDevices
+  few-devices =
+      let spare = not (any deviceIsSet (spareDevices m)) in
+      leb-true (m .devices) 8 (first (leb (m .devices) 8) spare (sound deviceForward devicesOverlap (usedDevices m)) valid-devices)
 
   -- address a is mapped if a device covers it or a < memory length
   pub mapped-rule : (mem a : ℕ) → somewhere (place m mem (length dev) a) ≡ (any (deviceCovers a) (usedDevices m) || ltb a mem)

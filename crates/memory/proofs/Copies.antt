@@ -1,18 +1,21 @@
--- One turn of reading memory out, and each answer with what it leaves in the buffer. Assumes nothing.
+-- One turn of reading memory out, each answer with what it leaves in the buffer, and how large a count can be. Assumes nothing.
 use mathlib.Core.Path.{_≡_, refl, sym, ap, _∙_}
-use mathlib.Core.Bool.{true, false}
+use mathlib.Core.Bool.{Bool, true, false}
 use mathlib.Core.List.{List, [], _∷_, _++_, append-nil, append-assoc}
-use Prim.Native.Nat.{ℕ, suc, _+_, _-_, _≤_, _<_}
+use Prim.Native.Nat.{ℕ, zero, suc, _+_, _-_, _≤_, _<_}
 use native.Mathlib.Numerals.{add-one}
 use native.Mathlib.Omega.{arith}
-use borrow.Author.Tests.{lt-ltb, le-ltb}
+use borrow.Author.Tests.{lt-ltb, le-ltb, ltb-false}
+use lib.Dec.{ltb}
 use lib.ListN.{length, set, take, drop, take-append-drop}
 use lib.Seq.{length-take-le, take-suc-set, drop-set-lt, drop-drop}
+use Rattle.base.specs.Choice.{cond}
 use Rattle.map.specs.Valid.{valid}
 use Rattle.map.specs.declared.Map.{Map}
 use Rattle.map.specs.declared.Place.{Place}
 use Rattle.memory.specs.Bytes.{Lent, readByte}
 use Rattle.memory.specs.Blocks.{onward, readBytes, over, Counted, numbered, readOut, readOutBuffer}
+use Rattle.memory.specs.declared.Read.{Read}
 use Rattle.memory.specs.declared.Read.the-variants.{Byte, Unmapped}
 
 -- i bytes are copied, and the rest of the buffer is as it was
@@ -82,3 +85,36 @@ module _ (m : Map) (s : Lent) (start size : ℕ) (out : List ℕ) where
       pub out-0 : size ≤ length out → Answered m s start size out (numbered 0 (length (readBytes m s start size))) (over (readBytes m s start size) out)
       unfolding readOut readOutBuffer
       out-0 f = record { answer = rw (e, le-ltb _ _ h, le-ltb _ _ f); buffer = rw (e, le-ltb _ _ h, le-ltb _ _ f) }
+
+-- ---- for any room: a range past the last address is refused, and a count fits sixteen bits
+
+onward-length : (r : Read) (rest : List ℕ) (n : ℕ) → length rest ≤ n → length (onward r rest) ≤ suc n
+unfolding onward
+onward-length (Byte v p) rest n h = omega arith
+onward-length Unmapped rest n h = omega arith
+
+module _ (m : Map) (s : Lent) where
+  -- no more bytes than were asked for
+  pub read-length : (start size : ℕ) → length (readBytes m s start size) ≤ size
+  unfolding readBytes
+  read-length start zero = omega arith
+  read-length start (suc n) = onward-length (readByte m s start) (readBytes m s (start + 1) n) n (read-length (start + 1) n)
+
+  module _ (start size room : ℕ) where
+    pub out-far : valid m (s .dev) ≡ true → 65535 < start + size → readOut m s start size room ≡ numbered 12 0
+    unfolding readOut
+    out-far e h = rw (e, lt-ltb _ _ h)
+
+    pub out-count : readOut m s start size room .count ≤ 65535
+    unfolding readOut
+    out-count = go (valid m (s .dev)) (ltb 65535 (start + size)) (ltb room size) refl
+      where
+        go : (t u w : Bool) → ltb 65535 (start + size) ≡ u
+            → cond t (cond u (numbered 12 0) (cond w (numbered 19 0) (numbered 0 (length (readBytes m s start size))))) (numbered 1 0) .count ≤ 65535
+        go true true w h = omega arith
+        go true false true h = omega arith
+        go true false false h =
+            let f = ltb-false 65535 (start + size) h in
+            let n = read-length start size in
+            omega arith
+        go false u w h = omega arith
