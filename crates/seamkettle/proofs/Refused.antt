@@ -1,0 +1,62 @@
+-- A refusal leaves the block as found, and all else but what 01 lets a load and a run keep: the state that came out of the block is
+-- packed again as it was. Assumes nothing.
+use Prim.Native.Nat.{ℕ}
+use mathlib.Core.Path.{_≡_, refl, ap, _∙_}
+use mathlib.Core.Bool.{Bool, true, false, _&&_}
+use mathlib.Core.List.{List}
+use Rattle.base.specs.Choice.{cond}
+use Rattle.wordbytes.specs.Words.{areBytes, wordsIn}
+use Rattle.memory.specs.Bytes.{Lent}
+use Rattle.journal.specs.States.{Whole, whole}
+use Rattle.journal.specs.declared.State.{State}
+use Rattle.journal.specs.Step.{isAccepted, step}
+use Rattle.journal.specs.Back.{stepBack}
+use Rattle.journal.proofs.StepLaws.{step-kept}
+use Rattle.journal.proofs.BackLaws.{back-kept}
+use Rattle.host.specs.Host.{loadNumber, begins}
+use Rattle.host.proofs.Laws.{load-refused}
+use Rattle.map.proofs.Tests.{and-left}
+use Rattle.block.specs.Block.{isBlock, packed, unpacked}
+use Rattle.block.proofs.Laws.{pack-unpack}
+use Rattle.seamkettle.specs.Answers.{stepCode}
+use Rattle.seamkettle.specs.Calls.{Seen, seen, shown, stepping, steppingBack, even, loaded, loading, blockAfter}
+
+module _ (block : List ℕ) (a : areBytes block ≡ true) where
+  -- an entry that leaves the state leaves the block
+  pub block-kept : (entry : State → State) → entry (unpacked block) ≡ unpacked block → blockAfter block entry ≡ block
+  unfolding blockAfter
+  block-kept entry e = go (isBlock block) refl
+    where
+      go : (t : Bool) → isBlock block ≡ t → cond t (packed (entry (unpacked block))) block ≡ block
+      go true i = ap packed e ∙ pack-unpack block i a
+      go false i = refl
+
+  module _ (b : Lent) (j : List ℕ) where
+    abbrev found : Whole
+    found = whole (unpacked block) b j
+
+    -- the same of what is shown of it, where there is a block
+    kept : (t : Bool) → (t ≡ true → isBlock block ≡ true) → (n : ℕ) (w : Whole) → w ≡ found
+        → cond t (shown n w) (seen 31 block b j) ≡ seen (cond t n 31) block b j
+    kept true i n w e = rw e (ap (λ (x : List ℕ). seen n x b j) (pack-unpack block (i refl) a))
+    kept false i n w e = refl
+
+    -- a step that is not accepted, being neither Continue nor Debug
+    pub step-refused : isAccepted (step found .answer) ≡ false
+        → stepping block b j ≡ seen (cond (isBlock block) (stepCode (step found .answer)) 31) block b j
+    unfolding stepping
+    step-refused h = kept (isBlock block) (λ i. i) (stepCode (step found .answer)) (step found .whole) (step-kept found h)
+
+    pub back-refused : (stepBack found .number ≡ 0 → ⊥)
+        → steppingBack block b j ≡ seen (cond (isBlock block) (stepBack found .number) 31) block b j
+    unfolding steppingBack
+    back-refused h = kept (isBlock block) (λ i. i) (stepBack found .number) (stepBack found .whole) (back-kept found h)
+
+    -- a load that is refused before it stores: 31, 1, 16, 14
+    pub load-unbegun : (words : List ℕ) → begins (unpacked block) b j (wordsIn words) ≡ false
+        → loading words block b j ≡ seen (cond (isBlock block && even words) (loadNumber (unpacked block) b j (wordsIn words)) 31) block b j
+    unfolding loading
+    load-unbegun words h =
+        let k = load-refused (unpacked block) b j (wordsIn words) h in
+        let e : loaded found (wordsIn words) ≡ found = rw (k .0, k .1) in
+        kept (isBlock block && even words) (and-left (isBlock block) (even words)) (loadNumber (unpacked block) b j (wordsIn words)) (loaded found (wordsIn words)) e
