@@ -1,12 +1,14 @@
 -- What everyone above may use of step-back: it has four answers, three of them change nothing, and what the fourth one restores
--- keeps lengths, tables and slots. Assumes nothing.
+-- keeps lengths, tables and slots; and that a refused forget changes nothing. Assumes nothing.
 use Prim.Native.Nat.{ℕ, _+_, _<_}
 use mathlib.Core.Path.{_≡_, refl, _∙_, subst⁻¹}
 use mathlib.Core.Bool.{Bool, true, false}
+use mathlib.Core.List.{List}
 use lib.Dec.{eqb}
 use lib.ListN.{length}
 use borrow.Author.Tests.{eqb-true, eqb-false, eq-eqb, ne-eqb}
 use native.Mathlib.Omega.{arith}
+use Rattle.base.specs.Choice.{cond}
 use Rattle.map.specs.declared.Map.{Map}
 use Rattle.machine.proofs.Laws as machine-laws
 use Rattle.memory.specs.Bytes.{Lent, storeByte}
@@ -15,8 +17,9 @@ use Rattle.records.specs.Slots.{room, slotBefore}
 use Rattle.records.specs.declared.Record.{Record}
 use Rattle.records.proofs.Laws.{record-eight}
 use Rattle.records.proofs.Ring.{before-lt}
-use Rattle.journal.specs.States.{Whole, validWhole}
-use Rattle.journal.specs.Back.{Answered, answered, usedBy, fits, restored, newest, with, undone, undoing, stepBack}
+use Rattle.journal.specs.States.{Whole, valid, validWhole, emptied}
+use Rattle.journal.specs.Back.{Answered, answered, usedBy, fits, restored, newest, with, undone, undoing, stepBack, forgetNumber, forgotten}
+use Rattle.journal.specs.declared.State.{State}
 use Rattle.journal.specs.declared.Used.{Used}
 use Rattle.journal.specs.declared.Used.the-variants.{Neither, First, Both, Unknown}
 use Rattle.journal.proofs.StateLaws.{Parts, parts, together}
@@ -126,3 +129,13 @@ module _ (w : Whole) where
   back-valid h =
       every-back (λ (x : Answered). validWhole (x .whole) ≡ true) (λ n k. h)
       (λ v k. together (undone w (newest w)) (undone-parts (newest w) (parts w h) k))
+
+-- ---- forget
+
+pub forget-refused : (s : State) (dev journal : List ℕ) → (forgetNumber s dev journal ≡ 0 → ⊥) → forgotten s dev journal ≡ s
+unfolding forgetNumber forgotten
+forget-refused s dev journal = go (valid s dev journal)
+  where
+    go : (t : Bool) → (_≡_ {A = ℕ} (cond t 0 1) 0 → ⊥) → cond t (emptied s) s ≡ s
+    go true h = absurd (h refl)
+    go false h = refl

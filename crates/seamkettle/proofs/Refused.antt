@@ -10,11 +10,11 @@ use Rattle.memory.specs.Bytes.{Lent}
 use Rattle.journal.specs.States.{Whole, whole}
 use Rattle.journal.specs.declared.State.{State}
 use Rattle.journal.specs.Step.{isAccepted, step}
-use Rattle.journal.specs.Back.{stepBack}
+use Rattle.journal.specs.Back.{stepBack, forgetNumber, forgotten}
 use Rattle.journal.proofs.StepLaws.{step-kept}
-use Rattle.journal.proofs.BackLaws.{back-kept}
-use Rattle.host.specs.Host.{loadNumber, begins}
-use Rattle.host.proofs.Laws.{load-refused}
+use Rattle.journal.proofs.BackLaws.{back-kept, forget-refused}
+use Rattle.host.specs.Host.{setNumber, setState, protectNumber, protectState, registerNumber, registerState, loadNumber, begins}
+use Rattle.host.proofs.Laws.{set-refused, protect-refused, register-refused, load-refused}
 use Rattle.map.proofs.Tests.{and-left}
 use Rattle.block.specs.Block.{isBlock, packed, unpacked}
 use Rattle.block.proofs.Laws.{pack-unpack}
@@ -30,6 +30,23 @@ module _ (block : List ℕ) (a : areBytes block ≡ true) where
       go : (t : Bool) → isBlock block ≡ t → cond t (packed (entry (unpacked block))) block ≡ block
       go true i = ap packed e ∙ pack-unpack block i a
       go false i = refl
+
+  -- set a register, protect, a device, forget: a number that is not 0
+  module _ (dev journal : List ℕ) where
+    pub set-left : (number value : ℕ) → (setNumber (unpacked block) dev journal number ≡ 0 → ⊥)
+        → blockAfter block (λ s. setState s dev journal number value) ≡ block
+    set-left number value h = block-kept (λ s. setState s dev journal number value) (set-refused (unpacked block) dev journal number value h)
+
+    pub protect-left : (start len : ℕ) → (protectNumber (unpacked block) dev journal start len ≡ 0 → ⊥)
+        → blockAfter block (λ s. protectState s dev journal start len) ≡ block
+    protect-left start len h = block-kept (λ s. protectState s dev journal start len) (protect-refused (unpacked block) dev journal start len h)
+
+    pub register-left : (start size : ℕ) → (registerNumber (unpacked block) dev journal start size ≡ 0 → ⊥)
+        → blockAfter block (λ s. registerState s dev journal start size) ≡ block
+    register-left start size h = block-kept (λ s. registerState s dev journal start size) (register-refused (unpacked block) dev journal start size h)
+
+    pub forget-left : (forgetNumber (unpacked block) dev journal ≡ 0 → ⊥) → blockAfter block (λ s. forgotten s dev journal) ≡ block
+    forget-left h = block-kept (λ s. forgotten s dev journal) (forget-refused (unpacked block) dev journal h)
 
   module _ (b : Lent) (j : List ℕ) where
     abbrev found : Whole

@@ -30,6 +30,7 @@ listedNumber (no n) = n
 
 -- ---- assembling
 
+-- 2^48 - 1
 abbrev pub mostLines : ℕ
 mostLines = 281474976710655
 
@@ -37,6 +38,8 @@ mostLines = 281474976710655
 abbrev pub assembledNumber : Report → ℕ
 assembledNumber (counts words labels waiting) = 65536 * words + 4294967296 * waiting + 281474976710656 * labels
 assembledNumber (refusal n line) = coded n (min line mostLines)
+
+-- ---- for inner functions' contracts alone
 
 -- each of the three has 16 bits
 unfoldable pub fitting : Report → Bool
