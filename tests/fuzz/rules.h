@@ -1,6 +1,7 @@
 /*
- * rules.h: the machine's rules over whole states, written from its description and not from its source: when a state is valid,
- * where a byte is, what a step does, what each entry answers and leaves. The harness holds the library beside them.
+ * rules.h: the machine's rules over whole states, written from its description and from the Rust, the step with our source in sight:
+ * when a state is valid, where a byte is, what a step does, what each entry answers and leaves. The harness holds the library
+ * beside them.
  */
 #ifndef RULES_H
 #define RULES_H
