@@ -3,7 +3,6 @@
 ghost use mathlib.Core.Path.{_≡_};
 ghost use Prim.Native.Nat.{_<_, _≤_};
 ghost use Rattle.base.specs.Choice.{cond};
-ghost use Rattle.base.specs.Told.{is};
 ghost use Rattle.fields.specs.Fields.{fieldOf};
 ghost use Rattle.instruction.specs.Decode.{told, registerAt, bitAt, operandAt, conditional, arm, decode};
 ghost use Rattle.instruction.specs.declared.Instruction.the-variants.{Jmp, CondJmp};
@@ -54,42 +53,42 @@ pub fn operand_at(w: u16, at: usize, width: usize) -> Operand
     }
 }
 
-fn mov(w: u16) -> Instruction
-    ensures { λ r. ⌜ is r ≡ arm w 1 ⌝ }
+fn mov(w: u16) -> Decoded
+    ensures { λ r. ⌜ told r ≡ arm w 1 ⌝ }
 {
-    Instruction::Mov(register_at(w, 4), operand_at(w, 7, 8))
+    Decoded::Ok(Instruction::Mov(register_at(w, 4), operand_at(w, 7, 8)))
 }
 
-fn mov_shift(w: u16) -> Instruction
-    ensures { λ r. ⌜ is r ≡ arm w 2 ⌝ }
+fn mov_shift(w: u16) -> Decoded
+    ensures { λ r. ⌜ told r ≡ arm w 2 ⌝ }
 {
-    Instruction::MovShift(
+    Decoded::Ok(Instruction::MovShift(
         register_at(w, 4),
         byte_at(w, 7, 3),
         bit_at(w, 10),
         field(w, 11, 5),
-    )
+    ))
 }
 
-fn arith(w: u16) -> Instruction
-    ensures { λ r. ⌜ is r ≡ arm w 3 ⌝ }
+fn arith(w: u16) -> Decoded
+    ensures { λ r. ⌜ told r ≡ arm w 3 ⌝ }
 {
-    Instruction::Arith(
+    Decoded::Ok(Instruction::Arith(
         register_at(w, 4),
         operand_at(w, 9, 6),
         arith_of(field(w, 7, 2)),
-    )
+    ))
 }
 
-fn ldr_str(w: u16) -> Instruction
-    ensures { λ r. ⌜ is r ≡ arm w 4 ⌝ }
+fn ldr_str(w: u16) -> Decoded
+    ensures { λ r. ⌜ told r ≡ arm w 4 ⌝ }
 {
-    Instruction::LdrStr(
+    Decoded::Ok(Instruction::LdrStr(
         register_at(w, 4),
         register_at(w, 7),
         bit_at(w, 10),
         byte_at(w, 11, 5),
-    )
+    ))
 }
 
 // 5 in register mode is a Jmp, as document 01 has it: no word says a CondJmp to a register. Only this function knows.
@@ -102,21 +101,21 @@ pub fn jumps_always(o: Operand) -> bool
     }
 }
 
-fn cond_jmp(w: u16) -> Instruction
-    ensures { λ r. ⌜ is r ≡ arm w 5 ⌝ }
+fn cond_jmp(w: u16) -> Decoded
+    ensures { λ r. ⌜ told r ≡ arm w 5 ⌝ }
 {
     let o = operand_at(w, 4, 11);
     if jumps_always(o) {
-        Instruction::Jmp(o)
+        Decoded::Ok(Instruction::Jmp(o))
     } else {
-        Instruction::CondJmp(o)
+        Decoded::Ok(Instruction::CondJmp(o))
     }
 }
 
-fn jmp(w: u16) -> Instruction
-    ensures { λ r. ⌜ is r ≡ arm w 6 ⌝ }
+fn jmp(w: u16) -> Decoded
+    ensures { λ r. ⌜ told r ≡ arm w 6 ⌝ }
 {
-    Instruction::Jmp(operand_at(w, 4, 11))
+    Decoded::Ok(Instruction::Jmp(operand_at(w, 4, 11)))
 }
 
 // Six comparisons have a number; 6 and 7 are none.
@@ -131,21 +130,21 @@ fn cmp(w: u16) -> Decoded
     }
 }
 
-fn ldb_stb(w: u16) -> Instruction
-    ensures { λ r. ⌜ is r ≡ arm w 8 ⌝ }
+fn ldb_stb(w: u16) -> Decoded
+    ensures { λ r. ⌜ told r ≡ arm w 8 ⌝ }
 {
-    Instruction::LdbStb(
+    Decoded::Ok(Instruction::LdbStb(
         register_at(w, 4),
         register_at(w, 7),
         bit_at(w, 10),
         byte_at(w, 11, 5),
-    )
+    ))
 }
 
-fn cpy(w: u16) -> Instruction
-    ensures { λ r. ⌜ is r ≡ arm w 9 ⌝ }
+fn cpy(w: u16) -> Decoded
+    ensures { λ r. ⌜ told r ≡ arm w 9 ⌝ }
 {
-    Instruction::Cpy(register_at(w, 4), register_at(w, 7))
+    Decoded::Ok(Instruction::Cpy(register_at(w, 4), register_at(w, 7)))
 }
 
 // Seven operators have a number; 7 is none.
@@ -165,10 +164,10 @@ fn arith_reg_reg(w: u16) -> Decoded
     }
 }
 
-fn call_ret(w: u16) -> Instruction
-    ensures { λ r. ⌜ is r ≡ arm w 11 ⌝ }
+fn call_ret(w: u16) -> Decoded
+    ensures { λ r. ⌜ told r ≡ arm w 11 ⌝ }
 {
-    Instruction::CallRet(bit_at(w, 4), field(w, 5, 11))
+    Decoded::Ok(Instruction::CallRet(bit_at(w, 4), field(w, 5, 11)))
 }
 
 pub fn decode(w: u16) -> Decoded
@@ -176,17 +175,17 @@ pub fn decode(w: u16) -> Decoded
 {
     match field(w, 0, 4) {
         0 => Decoded::Ok(Instruction::Noop),
-        1 => Decoded::Ok(mov(w)),
-        2 => Decoded::Ok(mov_shift(w)),
-        3 => Decoded::Ok(arith(w)),
-        4 => Decoded::Ok(ldr_str(w)),
-        5 => Decoded::Ok(cond_jmp(w)),
-        6 => Decoded::Ok(jmp(w)),
+        1 => mov(w),
+        2 => mov_shift(w),
+        3 => arith(w),
+        4 => ldr_str(w),
+        5 => cond_jmp(w),
+        6 => jmp(w),
         7 => cmp(w),
-        8 => Decoded::Ok(ldb_stb(w)),
-        9 => Decoded::Ok(cpy(w)),
+        8 => ldb_stb(w),
+        9 => cpy(w),
         10 => arith_reg_reg(w),
-        11 => Decoded::Ok(call_ret(w)),
+        11 => call_ret(w),
         _ => Decoded::Refused(Refusal::BadOpcode),
     }
 }
