@@ -12,7 +12,7 @@ use Rattle.journal.specs.Step.{After, after, step}
 use Rattle.journal.specs.Run.{Ran, ran, run}
 use Rattle.journal.specs.Back.{Answered, answered, stepBack}
 use Rattle.block.specs.Block.{isBlock, packed, unpacked}
-use Rattle.seamkettle.specs.Answers.{coded, stepCode}
+use Rattle.numbers.specs.Answers.{coded, stepCode}
 use Rattle.seamkettle.specs.Calls.{seen, shown, stepping, running, steppingBack, numberIn, blockAfter}
 
 -- ---- no block

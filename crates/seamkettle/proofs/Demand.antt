@@ -14,7 +14,7 @@ use Rattle.journal.proofs.BackLaws.{back-map, back-eight-kept, back-valid}
 use Rattle.journal.proofs.WalkLaws.{after-step, after-back, walk-none, walk-more}
 use Rattle.block.specs.Block.{packed}
 use Rattle.block.proofs.Laws.{Shaped, packed-block, valid-back}
-use Rattle.seamkettle.specs.Answers.{stepCode}
+use Rattle.numbers.specs.Answers.{stepCode}
 use Rattle.seamkettle.specs.Calls.{Seen, shown, stepping, steppingBack}
 use Rattle.seamkettle.specs.Demand.{call, calls, Ready, Holds, CallsWalk}
 

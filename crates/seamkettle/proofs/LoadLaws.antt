@@ -15,10 +15,10 @@ use Rattle.memory.specs.Blocks.{Counted}
 use Rattle.journal.specs.declared.State.{State}
 use Rattle.host.specs.Host.{readOut, readOutBuffer, loadNumber, loadState, loadBytes}
 use Rattle.block.specs.Block.{isBlock, packed, unpacked}
-use Rattle.seamkettle.specs.Answers.{countedNumber}
+use Rattle.numbers.specs.Answers.{countedNumber}
 use Rattle.seamkettle.specs.Calls.{Seen, seen, even, loading, numberIn, readNumber, readBuffer}
 use Rattle.host.proofs.Far.{read-far, read-far-buffer, read-count, load-long}
-use Rattle.seamkettle.proofs.RangeLaws.{narrowed}
+use Rattle.numbers.proofs.RangeLaws.{narrowed}
 
 -- ---- the words of a load
 

@@ -1,42 +1,26 @@
--- A range that ends past 65,535 may stand for another one that does, where both come to the same; one that does not stays as it is.
--- Assumes nothing.
-use Prim.Native.Nat.{ℕ, _+_, _-_, _<_, _≤_}
-use mathlib.Core.Path.{_≡_, refl}
-use mathlib.Core.Bool.{Bool, true, false, not}
+-- What becomes of a range of protect and of a device is that of the numbers as the host has them. Assumes nothing.
+use Prim.Native.Nat.{ℕ, _+_}
+use mathlib.Core.Path.{_≡_}
 use mathlib.Core.List.{List}
-use lib.Dec.{ltb, leb}
+use lib.Dec.{ltb}
 use native.Mathlib.Omega.{arith}
-use borrow.Author.Tests.{ltb-true, leb-true, leb-false, lt-ltb, le-ltb}
 use Rattle.base.specs.Choice.{cond}
 use Rattle.journal.specs.declared.State.{State}
 use Rattle.host.specs.Host.{protectNumber, protectState, registerNumber, registerState}
 use Rattle.host.proofs.Far.{protect-far, register-far}
+use Rattle.numbers.proofs.RangeLaws.{narrowed}
 
--- the code's test, which can't run over
-pub within : (start len : ℕ) → start ≤ 65535 → leb len (65535 - start) ≡ not (ltb 65535 (start + len))
-within start len h = go (leb len (65535 - start)) refl where
-  go : (t : Bool) → leb len (65535 - start) ≡ t → t ≡ not (ltb 65535 (start + len))
-  go true e = let g : start + len ≤ 65535 = omega (arith, leb-true len (65535 - start) e) in rw (le-ltb 65535 (start + len) g)
-  go false e = let g : 65535 < start + len = omega (arith, leb-false len (65535 - start) e) in rw (lt-ltb 65535 (start + len) g)
+module _ (start len : ℕ) {a n : ℕ} (p : a ≡ cond (ltb 65535 (start + len)) 65535 start) (q : n ≡ cond (ltb 65535 (start + len)) 65535 len) (s : State) (dev journal : List ℕ) where
+  pub protect-narrow : (protectNumber s dev journal a n ≡ protectNumber s dev journal start len)
+      × (protectState s dev journal a n ≡ protectState s dev journal start len)
+  protect-narrow = (
+    narrowed start len p q (protectNumber s dev journal) (λ h. protect-far s dev journal 65535 65535 start len (omega arith) h .0),
+    narrowed start len p q (protectState s dev journal) (λ h. protect-far s dev journal 65535 65535 start len (omega arith) h .1),
+  )
 
-module _ (start len : ℕ) {a n : ℕ} (p : a ≡ cond (ltb 65535 (start + len)) 65535 start) (q : n ≡ cond (ltb 65535 (start + len)) 65535 len) where
-  pub narrowed : {A : Type 0} (f : ℕ → ℕ → A) → (65535 < start + len → f 65535 65535 ≡ f start len) → f a n ≡ f start len
-  narrowed {A} f far = rw (p, q) (go (ltb 65535 (start + len)) refl) where
-    go : (t : Bool) → ltb 65535 (start + len) ≡ t → f (cond t 65535 start) (cond t 65535 len) ≡ f start len
-    go true e = far (ltb-true 65535 (start + len) e)
-    go false e = refl
-
-  module _ (s : State) (dev journal : List ℕ) where
-    pub protect-narrow : (protectNumber s dev journal a n ≡ protectNumber s dev journal start len)
-        × (protectState s dev journal a n ≡ protectState s dev journal start len)
-    protect-narrow = (
-      narrowed (protectNumber s dev journal) (λ h. protect-far s dev journal 65535 65535 start len (omega arith) h .0),
-      narrowed (protectState s dev journal) (λ h. protect-far s dev journal 65535 65535 start len (omega arith) h .1),
-    )
-
-    pub register-narrow : (registerNumber s dev journal a n ≡ registerNumber s dev journal start len)
-        × (registerState s dev journal a n ≡ registerState s dev journal start len)
-    register-narrow = (
-      narrowed (registerNumber s dev journal) (λ h. register-far s dev journal 65535 65535 start len (omega arith) h .0),
-      narrowed (registerState s dev journal) (λ h. register-far s dev journal 65535 65535 start len (omega arith) h .1),
-    )
+  pub register-narrow : (registerNumber s dev journal a n ≡ registerNumber s dev journal start len)
+      × (registerState s dev journal a n ≡ registerState s dev journal start len)
+  register-narrow = (
+    narrowed start len p q (registerNumber s dev journal) (λ h. register-far s dev journal 65535 65535 start len (omega arith) h .0),
+    narrowed start len p q (registerState s dev journal) (λ h. register-far s dev journal 65535 65535 start len (omega arith) h .1),
+  )

@@ -18,7 +18,7 @@ use Rattle.host.proofs.Laws.{set-refused, protect-refused, register-refused, lo
 use Rattle.map.proofs.Tests.{and-left}
 use Rattle.block.specs.Block.{isBlock, packed, unpacked}
 use Rattle.block.proofs.Laws.{pack-unpack}
-use Rattle.seamkettle.specs.Answers.{stepCode}
+use Rattle.numbers.specs.Answers.{stepCode}
 use Rattle.seamkettle.specs.Calls.{Seen, seen, shown, stepping, steppingBack, even, loaded, loading, blockAfter}
 
 module _ (block : List ℕ) (a : areBytes block ≡ true) where

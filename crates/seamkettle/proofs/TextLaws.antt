@@ -13,7 +13,7 @@ use Rattle.wordbytes.specs.Words.{bytesOf}
 use Rattle.wordbytes.proofs.Laws.{length-bytes, bytes-append, bytes-zeros}
 use Rattle.asm.specs.Assemble.{Outcome, accepted, refused, outcome, wordsOf, filled, Report, counts, refusal, report}
 use Rattle.lister.specs.Listing.{listing, listed}
-use Rattle.seamkettle.specs.Answers.{listedNumber, assembledNumber, fitting}
+use Rattle.numbers.specs.Answers.{listedNumber, assembledNumber, fitting}
 use Rattle.seamkettle.specs.Calls.{even, assembling, assembleNumber, assembledWords}
 use Rattle.asm.proofs.Rooms.{outcome-room, words-most, report-most}
 use Rattle.asm.proofs.FillLaws.{filled-parts, filled-exact, filled-more}

@@ -15,7 +15,7 @@ use Rattle.journal.specs.Back.{stepBack}
 use Rattle.host.specs.Host as host
 use Rattle.asm.specs.Assemble.{Outcome, outcome, wordsOf, filled, report}
 use Rattle.block.specs.Block.{isBlock, packed, unpacked}
-use Rattle.seamkettle.specs.Answers.{coded, stepCode, countedNumber, assembledNumber}
+use Rattle.numbers.specs.Answers.{coded, stepCode, countedNumber, assembledNumber}
 
 -- ---- entries that may write memory, devices or journal: sk_step, sk_run, sk_step_back, sk_load
 

@@ -1,8 +1,6 @@
 // What a C host calls: each function takes numbers and lent bytes and answers one number (include/seamkettle.h says the same in C).
 // A machine's state comes and goes in its block, so nothing is kept between two calls.
-mod answers;
 mod programs;
-mod ranges;
 mod steps;
 mod tables;
 mod texts;

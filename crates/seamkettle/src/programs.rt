@@ -1,14 +1,14 @@
 // A program into memory, and memory out of it.
-use crate::answers::bad_block;
-use crate::answers::of_answer;
-use crate::answers::of_read;
-use crate::ranges::narrow_len;
-use crate::ranges::narrow_start;
 use block::is_block;
 use block::pack;
 use block::unpack;
 use journal::Changed;
 use journal::State;
+use numbers::bad_block;
+use numbers::narrow_len;
+use numbers::narrow_start;
+use numbers::of_answer;
+use numbers::of_read;
 use wordbytes::read_words;
 ghost use mathlib.Core.Path.{_≡_};
 ghost use lib.ListN.{length};

@@ -1,11 +1,11 @@
 // Step, run, step back, forget.
-use crate::answers::bad_block;
-use crate::answers::of_answer;
-use crate::answers::of_run;
-use crate::answers::of_step;
 use block::is_block;
 use block::pack;
 use block::unpack;
+use numbers::bad_block;
+use numbers::of_answer;
+use numbers::of_run;
+use numbers::of_step;
 ghost use mathlib.Core.Path.{_≡_};
 ghost use Rattle.memory.specs.Bytes.{lent};
 ghost use Rattle.journal.specs.Back.{forgetNumber, forgotten};

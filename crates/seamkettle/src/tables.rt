@@ -1,11 +1,11 @@
 // What a host sets: a register, a protected region, a device. Memory is not looked at.
-use crate::answers::bad_block;
-use crate::answers::of_answer;
-use crate::ranges::narrow_len;
-use crate::ranges::narrow_start;
 use block::is_block;
 use block::pack;
 use block::unpack;
+use numbers::bad_block;
+use numbers::narrow_len;
+use numbers::narrow_start;
+use numbers::of_answer;
 ghost use mathlib.Core.Path.{_≡_};
 ghost use Rattle.host.specs.Host.{setNumber, setState, protectNumber, protectState, registerNumber, registerState};
 ghost use Rattle.seamkettle.specs.Calls.{numberIn, blockAfter};

@@ -1,10 +1,10 @@
 // A text: its words, its listing. No machine is needed.
-use crate::answers::bad_block;
-use crate::answers::of_assembly;
-use crate::answers::of_list;
 use asm::Assembled;
 use asm::Rules;
 use assembler::assemble_words;
+use numbers::bad_block;
+use numbers::of_assembly;
+use numbers::of_list;
 use wordbytes::write_words;
 ghost use mathlib.Core.Path.{_≡_};
 ghost use mathlib.Core.Bool.{true, not};
@@ -14,7 +14,7 @@ ghost use lib.ListN.{length, take};
 ghost use Rattle.wordbytes.specs.Words.{bytesOf};
 ghost use Rattle.asm.specs.Assemble.{wordsOf, filled, report, answered};
 ghost use Rattle.lister.specs.Listing.{listed, listedBuffer};
-ghost use Rattle.seamkettle.specs.Answers.{listedNumber, fitting};
+ghost use Rattle.numbers.specs.Answers.{listedNumber, fitting};
 ghost use Rattle.seamkettle.specs.Calls.{even, assembling, assembleNumber, assembledWords};
 
 // Zeros from byte `from` on.

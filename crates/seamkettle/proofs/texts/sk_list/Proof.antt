@@ -4,7 +4,7 @@ use denote.Ref.{now}
 use lib.ListN.{length}
 use borrow.Author.Needs.{needs}
 use Rattle.printer.specs.Print.{printed}
-use Rattle.seamkettle.specs.Answers.{listedNumber}
+use Rattle.numbers.specs.Answers.{listedNumber}
 use Rattle.seamkettle.proofs.TextLaws.{list-fits}
 use Rattle.seamkettle.proofs.texts.sk_list.Statement.{statement}
 use Rattle.seamkettle.proofs.texts.sk_list.Tie as tie

@@ -2,9 +2,9 @@
 use Prim.Native.Nat.{_+_, _<_, _≤_}
 use native.Mathlib.Omega.{arith}
 use borrow.Author.Tests.{lt-ltb}
-use Rattle.seamkettle.proofs.RangeLaws.{within}
-use Rattle.seamkettle.proofs.ranges.ends_within.Statement.{statement}
-use Rattle.seamkettle.proofs.ranges.ends_within.Tie as tie
+use Rattle.numbers.proofs.RangeLaws.{within}
+use Rattle.numbers.proofs.ranges.ends_within.Statement.{statement}
+use Rattle.numbers.proofs.ranges.ends_within.Tie as tie
 
 returns : tie.Need-returns
 returns c =

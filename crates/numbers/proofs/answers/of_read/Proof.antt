@@ -3,10 +3,10 @@ use mathlib.Core.Path.{sym, ap, _∙_}
 use native.Mathlib.Omega.{arith}
 use Rattle.memory.specs.Blocks.{counted}
 use Rattle.memory.specs.declared.ReadOut.{ReadOut}
-use Rattle.seamkettle.specs.Answers.{countedNumber}
+use Rattle.numbers.specs.Answers.{countedNumber}
 use borrow.Author.Needs.{needs}
-use Rattle.seamkettle.proofs.answers.of_read.Statement.{statement}
-use Rattle.seamkettle.proofs.answers.of_read.Tie as tie
+use Rattle.numbers.proofs.answers.of_read.Statement.{statement}
+use Rattle.numbers.proofs.answers.of_read.Tie as tie
 
 enum-known-a : tie.Need-enum-known-a
 enum-known-a c = search needs

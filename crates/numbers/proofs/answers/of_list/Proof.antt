@@ -3,10 +3,10 @@ use mathlib.Core.Path.{sym, ap, _∙_}
 use native.Mathlib.Omega.{arith}
 use Rattle.printer.specs.Print.{printed}
 use Rattle.printer.specs.declared.Printed.{Printed}
-use Rattle.seamkettle.specs.Answers.{listedNumber}
+use Rattle.numbers.specs.Answers.{listedNumber}
 use borrow.Author.Needs.{needs}
-use Rattle.seamkettle.proofs.answers.of_list.Statement.{statement}
-use Rattle.seamkettle.proofs.answers.of_list.Tie as tie
+use Rattle.numbers.proofs.answers.of_list.Statement.{statement}
+use Rattle.numbers.proofs.answers.of_list.Tie as tie
 
 enum-known-p : tie.Need-enum-known-p
 enum-known-p c = search needs

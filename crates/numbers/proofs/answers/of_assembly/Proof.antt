@@ -3,11 +3,11 @@ use mathlib.Core.Path.{sym, ap, _∙_}
 use native.Mathlib.Omega.{arith}
 use Rattle.asm.specs.Assemble.{answered}
 use Rattle.asm.specs.declared.Assembled.{Assembled}
-use Rattle.seamkettle.specs.Answers.{assembledNumber}
-use Rattle.seamkettle.proofs.FittingLaws.{counts-fit}
+use Rattle.numbers.specs.Answers.{assembledNumber}
+use Rattle.numbers.proofs.FittingLaws.{counts-fit}
 use borrow.Author.Needs.{needs}
-use Rattle.seamkettle.proofs.answers.of_assembly.Statement.{statement}
-use Rattle.seamkettle.proofs.answers.of_assembly.Tie as tie
+use Rattle.numbers.proofs.answers.of_assembly.Statement.{statement}
+use Rattle.numbers.proofs.answers.of_assembly.Tie as tie
 
 enum-known-a : tie.Need-enum-known-a
 enum-known-a c = search needs

@@ -6,7 +6,7 @@ use lib.Dec.{ltb}
 use borrow.Author.Tests.{ltb-true}
 use Rattle.map.proofs.Tests.{first, second, third}
 use Rattle.asm.specs.Assemble.{Report, counts}
-use Rattle.seamkettle.specs.Answers.{fitting}
+use Rattle.numbers.specs.Answers.{fitting}
 
 pub counts-fit : {r : Report} {words labels waiting : ℕ} → r ≡ counts words labels waiting → fitting r ≡ true
     → (words < 65536) × (labels < 65536) × (waiting < 65536)

@@ -1,8 +1,8 @@
 -- One case for each answer. Assumes nothing.
 use mathlib.Core.Path.{_∙_}
 use borrow.Author.Needs.{needs}
-use Rattle.seamkettle.proofs.answers.of_answer.Statement.{statement}
-use Rattle.seamkettle.proofs.answers.of_answer.Tie as tie
+use Rattle.numbers.proofs.answers.of_answer.Statement.{statement}
+use Rattle.numbers.proofs.answers.of_answer.Tie as tie
 
 enum-told : tie.Need-enum-told
 enum-told c = search needs

@@ -13,7 +13,7 @@ ghost use Rattle.machine.specs.Answers.{answered};
 ghost use Rattle.memory.specs.Blocks.{counted};
 ghost use Rattle.printer.specs.Print.{printed};
 ghost use Rattle.asm.specs.Assemble as asm;
-ghost use Rattle.seamkettle.specs.Answers.{coded, stepCode, countedNumber, listedNumber, mostLines, assembledNumber, fitting};
+ghost use Rattle.numbers.specs.Answers.{coded, stepCode, countedNumber, listedNumber, mostLines, assembledNumber, fitting};
 
 fn refused(r: Refusal) -> u64
     ensures { λ n. ⌜ n ≡ numberOf r ⌝ }

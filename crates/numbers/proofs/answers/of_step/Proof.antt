@@ -2,8 +2,8 @@
 use mathlib.Core.Path.{_∙_}
 use native.Mathlib.Omega.{arith}
 use borrow.Author.Needs.{needs}
-use Rattle.seamkettle.proofs.answers.of_step.Statement.{statement}
-use Rattle.seamkettle.proofs.answers.of_step.Tie as tie
+use Rattle.numbers.proofs.answers.of_step.Statement.{statement}
+use Rattle.numbers.proofs.answers.of_step.Tie as tie
 
 enum-told : tie.Need-enum-told
 enum-told c = search needs

@@ -6,8 +6,8 @@ use lib.Dec.{ltb}
 use native.Mathlib.Omega.{arith}
 use borrow.Author.Tests.{ltb-false, not-true, not-false}
 use borrow.Author.Needs.{needs}
-use Rattle.seamkettle.proofs.ranges.narrow_start.Statement.{statement}
-use Rattle.seamkettle.proofs.ranges.narrow_start.Tie as tie
+use Rattle.numbers.proofs.ranges.narrow_start.Statement.{statement}
+use Rattle.numbers.proofs.ranges.narrow_start.Tie as tie
 
 ends-within-requires : tie.Need-ends-within-requires
 ends-within-requires c κs = search needs

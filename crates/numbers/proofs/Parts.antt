@@ -5,7 +5,7 @@ use mathlib.Core.Path.{_≡_}
 use mathlib.Core.Bool.{true}
 use native.Mathlib.Omega.{arith}
 use Rattle.asm.specs.Assemble.{counts}
-use Rattle.seamkettle.specs.Answers.{coded, assembledNumber}
+use Rattle.numbers.specs.Answers.{coded, assembledNumber}
 
 module _ (code above : ℕ) (h : code < 65536) where
   pub the-code : coded code above % 65536 ≡ code
