@@ -105,7 +105,7 @@ fn note(g: Going, mem: &[u8], dev: &[u8], c: Changes, journal: &mut [u8], d: u16
     Going {
         registers,
         next: records::slot_after(d, g.next),
-        held: if g.held < d { g.held + 1 } else { d },
+        held: records::one_more(d, g.held),
     }
 }
 

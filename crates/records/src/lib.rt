@@ -3,6 +3,7 @@ mod bytes;
 mod slots;
 
 pub use slots::fill;
+pub use slots::one_more;
 pub use slots::read;
 pub use slots::room;
 pub use slots::slot_after;

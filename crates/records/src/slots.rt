@@ -3,7 +3,7 @@ use crate::Record;
 use crate::bytes::decode;
 use crate::bytes::encode;
 ghost use mathlib.Core.Path.{_≡_};
-ghost use Prim.Native.Nat.{_<_};
+ghost use Prim.Native.Nat.{_+_, _<_, min};
 ghost use Rattle.records.specs.Slots.{room, recordAt, filled, slotAfter, slotBefore};
 
 // How many records the journal has room for.
@@ -27,6 +27,13 @@ pub fn slot_before(d: u16, k: u16) -> u16
     ensures { λ n. ⌜ n ≡ slotBefore d k ⌝ }
 {
     if 0 < k { k - 1 } else { d - 1 }
+}
+
+// How many records are held with one more, in a ring of d.
+pub fn one_more(d: u16, held: u16) -> u16
+    ensures { λ n. ⌜ n ≡ min (held + 1) d ⌝ }
+{
+    if held < d { held + 1 } else { d }
 }
 
 // The record in slot k.

@@ -1,7 +1,6 @@
 -- Without room nothing is done; else the slot is filled and both counts move as defined. Assumes nothing.
 use mathlib.Core.Path.{_≡_, ap, _∙_}
 use mathlib.Core.Bool.{false}
-use Prim.Native.Nat.{_+_, min}
 use denote.Ref.{now}
 use native.Mathlib.Omega.{arith}
 use lib.Dec.{eqb}
@@ -25,8 +24,8 @@ fill-requires c κs = omega (arith, c .before .before .before .before .before .b
 slot-after-requires : tie.Need-slot-after-requires
 slot-after-requires c κs = omega (arith, c .before .before .before .before .before .before .before .before .before .before .pre .1, c .before .before .before .before .before .before .if1 .left)
 
-add-t28 : tie.Need-add-t28
-add-t28 c = search needs
+one-more-requires : tie.Need-one-more-requires
+one-more-requires c κs = search needs
 
 same-length : tie.Need-same-length
 same-length c = search needs
@@ -36,19 +35,7 @@ unfolding advanced noted
 returns-2 c =
     let x = c .before .before .before .before .before .before .before .before .before .before .before .before .args in
     let e : eqb (x .d) 0 ≡ false = ne-eqb (x .d) 0 (c .before .before .before .before .before .before .before .before .if1 .left) in
-    let h : x .g .held + 1 ≡ min (x .g .held + 1) (x .d) = omega (arith, c .if2 .taken) in
-    (λ m. rw (e, c .before .slot-after .ensures, ← h), rw e (c .before .before .before .before .fill .ensures ∙ ap (filled (now (x .journal)) (x .g .next)) (c .before .before .before .before .before .before .record-of .ensures)))
-
-same-length-2 : tie.Need-same-length-2
-same-length-2 c = c .before .before .before .before .fill .kept .0
-
-returns-3 : tie.Need-returns-3
-unfolding advanced noted
-returns-3 c =
-    let x = c .before .before .before .before .before .before .before .before .before .before .before .before .args in
-    let e : eqb (x .d) 0 ≡ false = ne-eqb (x .d) 0 (c .before .before .before .before .before .before .before .before .if1 .left) in
-    let h : x .d ≡ min (x .g .held + 1) (x .d) = omega (arith, c .if2 .left) in
-    (λ m. rw (e, c .before .slot-after .ensures, ← h), rw e (c .before .before .before .before .fill .ensures ∙ ap (filled (now (x .journal)) (x .g .next)) (c .before .before .before .before .before .before .record-of .ensures)))
+    (λ m. rw (e, c .before .slot-after .ensures, c .one-more .ensures), rw e (c .before .before .before .before .fill .ensures ∙ ap (filled (now (x .journal)) (x .g .next)) (c .before .before .before .before .before .before .record-of .ensures)))
 
 pub note-spec : {M : Type 1} → statement M
 note-spec =
@@ -58,8 +45,6 @@ note-spec =
     record-of-requires
     fill-requires
     slot-after-requires
-    add-t28
+    one-more-requires
     same-length
-    returns-2
-    same-length-2
-    returns-3)
+    returns-2)
