@@ -47,7 +47,11 @@ pub fn fetch_word(m: Map, mem: &[u8], dev: &[u8], a: u16) -> WordRead
         let high = mem[i + 1];
         return WordRead::Word(base::word(low, high));
     }
-    read_word(m, mem, dev, a)
+    match read_word(m, mem, dev, a) {
+        WordRead::Word(w) => WordRead::Word(w),
+        WordRead::NoWord => WordRead::NoWord,
+        WordRead::Refused(e) => WordRead::Refused(e),
+    }
 }
 
 // What storing a byte comes to, with mem bytes of linear memory and dev bytes in the device buffer.

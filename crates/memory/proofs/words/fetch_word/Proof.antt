@@ -47,8 +47,23 @@ returns c =
 read-word-requires : tie.Need-read-word-requires
 read-word-requires c κs = search needs
 
+enum-known-w : tie.Need-enum-known-w
+enum-known-w c = search needs
+
+enum-told : tie.Need-enum-told
+enum-told c = search needs
+
+enum-known-e : tie.Need-enum-known-e
+enum-known-e c = search needs
+
 returns-2 : tie.Need-returns-2
-returns-2 c = c .read-word .ensures
+returns-2 c = sym (c .before .w .given .1) ∙ c .before .before .before .read-word .ensures
+
+returns-3 : tie.Need-returns-3
+returns-3 c = sym (c .enum-told .given .1) ∙ c .before .before .read-word .ensures
+
+returns-4 : tie.Need-returns-4
+returns-4 c = sym (c .before .e .given .1) ∙ c .before .before .before .read-word .ensures
 
 pub fetch-word-spec : {M : Type 1} → statement M
 fetch-word-spec =
@@ -61,4 +76,9 @@ fetch-word-spec =
     word-requires
     returns
     read-word-requires
-    returns-2)
+    enum-known-w
+    enum-told
+    enum-known-e
+    returns-2
+    returns-3
+    returns-4)
