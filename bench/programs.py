@@ -24,6 +24,11 @@ def call(*command, cwd=ROOT):
         stop(f"{' '.join(command)} ended with {done.returncode}\n{done.stdout}")
 
 
+def first_line(*command):
+    """What a command that names itself writes first."""
+    return subprocess.run(command, stdout=subprocess.PIPE, text=True, check=True).stdout.splitlines()[0]
+
+
 def build_ours(folder, crate, above, uses, wrote):
     """Proves and builds the program of `folder`/main.rattle as a crate in a copy of the repository: it is no crate of the
     repository itself. `above` is the crate that it stands on, `uses` all that it names, `wrote` what it writes on no input."""
@@ -47,18 +52,21 @@ def build_ours(folder, crate, above, uses, wrote):
     return copy / "target" / "bin" / crate
 
 
+def rustc():
+    """The rustc that makes x86-64 programs."""
+    named = os.environ.get("RUSTC_X86_64")
+    if named is None and platform.machine() != "x86_64":
+        stop("set RUSTC_X86_64 to a rustc that makes x86-64 programs")
+    return named or "rustc"
+
+
 def build_rust(folder):
     call(ROOT / "oracle" / "build")
-    rustc = os.environ.get("RUSTC_X86_64")
-    if rustc is None:
-        if platform.machine() != "x86_64":
-            stop("set RUSTC_X86_64 to a rustc that makes x86-64 programs")
-        rustc = "rustc"
     library = MADE / "librust16vm.rlib"
     program = MADE / f"{folder.name}-rust"
     source = ROOT / "target" / "oracle" / "src" / "lib.rs"
-    call(rustc, *RUST_FLAGS, "--crate-type", "rlib", "--crate-name", "rust16vm", "-o", library, source)
-    call(rustc, *RUST_FLAGS, "--crate-name", "program", "--extern", f"rust16vm={library}", "-o", program, folder / "main.rs")
+    call(rustc(), *RUST_FLAGS, "--crate-type", "rlib", "--crate-name", "rust16vm", "-o", library, source)
+    call(rustc(), *RUST_FLAGS, "--crate-name", "program", "--extern", f"rust16vm={library}", "-o", program, folder / "main.rs")
     return program
 
 
@@ -78,3 +86,10 @@ def run(command, given):
 
 def on_x86_64(program):
     return [ROOT / "tools" / "on-x86-64", program]
+
+
+def by_kit(program):
+    """The same on an x86-64 machine, with nothing in between but the kit's loader."""
+    kit = pathlib.Path(first_line("rt", "doc")).resolve().parent.parent
+    libraries = kit / "on" / platform.machine() / "toolchain" / "lib"
+    return [libraries / "ld-linux-x86-64.so.2", "--library-path", libraries, program]
