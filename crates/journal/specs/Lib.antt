@@ -1,4 +1,5 @@
 pub mod States
+pub mod Turns
 pub mod Step
 pub mod Back
 pub mod Run

@@ -1,10 +1,11 @@
 // Run: steps until enough are accepted, or one is not, or one is Debug. The state is tested once: a step keeps it valid.
-// A single step is a run of one.
+// The registers stay where they are: each step stores two numbers into them, the second into PC, the sixth. A single step is a run
+// of one.
 use crate::Ran;
 use crate::State;
 use crate::Stepped;
 use crate::states::valid;
-use crate::steps::going_of;
+use crate::steps::Ring;
 use crate::steps::is_accepted;
 use crate::steps::state_of;
 use crate::steps::turn;
@@ -53,17 +54,26 @@ pub fn run(s: State, mem: &mut [u8], dev: &mut [u8], journal: &mut [u8], n: u32)
     let mode = m.mode;
     let map = m.map;
     let d = records::room(journal);
-    let mut going = going_of(s);
+    let registers = m.registers;
+    let mut g = registers.value;
+    let mut ring = Ring {
+        next: s.next,
+        held: s.held,
+    };
     let mut count: u32 = 0;
     while count < n {
-        let q = turn(going, mode, map, mem, dev, journal, d);
-        going = q.going;
+        let q = turn(&g, ring, mode, map, mem, dev, journal, d);
+        let r = q.register;
+        let i = instruction::register_code(r) as usize;
+        g[i] = q.value;
+        g[5] = q.pc;
+        ring = q.ring;
         let answer = q.answer;
         if !goes_on(answer) {
             return Ran {
                 answer,
                 count: count + counts(answer),
-                state: state_of(going, mode, map),
+                state: state_of(g, ring, mode, map),
             };
         }
         count += 1;
@@ -71,7 +81,7 @@ pub fn run(s: State, mem: &mut [u8], dev: &mut [u8], journal: &mut [u8], n: u32)
     Ran {
         answer: StepAnswer::Continue,
         count,
-        state: state_of(going, mode, map),
+        state: state_of(g, ring, mode, map),
     }
 }
 

@@ -1,5 +1,6 @@
 // The step, planned, recorded and committed.
 use crate::State;
+use instruction::Register;
 use machine::Machine;
 use machine::Mode;
 use machine::Registers;
@@ -14,23 +15,35 @@ ghost use mathlib.Core.Path.{_≡_};
 ghost use mathlib.Core.Bool.{true};
 ghost use Prim.Native.Nat.{_≤_, _<_, max};
 ghost use Rattle.machine.specs.Answers.{answered};
+ghost use Rattle.machine.specs.Moves.{regs};
 ghost use Rattle.machine.specs.declared.Machine.{Machine};
 ghost use Rattle.memory.specs.Bytes.{lent};
 ghost use Rattle.records.specs.Slots.{room};
 ghost use Rattle.journal.specs.States.{whole, state, valid, stateOf};
+ghost use Rattle.journal.specs.Turns.{goingFrom, goingAfter};
 ghost use Rattle.journal.specs.Step.{after, isAccepted, replaced, recordOf, advanced, noted, step};
 
-// What changes from step to step: tables and mode stay, and a run does not carry them along.
+// What changes from step to step, as the definitions have it: tables and mode stay, and a run does not carry them along. The code
+// has eight numbers for it, which stay where they are, and a Ring.
 pub struct Going {
     pub registers: Registers,
     pub next: u16,
     pub held: u16,
 }
 
-// A step's answer, and what goes on from it.
+// How the journal stands: the slot that the next record goes to, and how many are held.
+pub struct Ring {
+    pub next: u16,
+    pub held: u16,
+}
+
+// A step's answer, and what goes on from it: one register gets a value, and then PC its own.
 pub struct Turned {
     pub answer: StepAnswer,
-    pub going: Going,
+    pub register: Register,
+    pub value: u16,
+    pub pc: u16,
+    pub ring: Ring,
 }
 
 // Continue and Debug.
@@ -58,10 +71,9 @@ fn replaced(x: Change, mem: &[u8], dev: &[u8]) -> Old
 }
 
 // The record of a step that is planned and not yet made.
-fn record_of(s: Registers, mem: &[u8], dev: &[u8], c: Changes) -> Record
-    ensures { λ r. ⌜ r ≡ recordOf s (lent (now (mem .entry)) (now (dev .entry))) c ⌝ }
+fn record_of(registers: [u16; 8], mem: &[u8], dev: &[u8], c: Changes) -> Record
+    ensures { λ r. ⌜ r ≡ recordOf (regs registers) (lent (now (mem .entry)) (now (dev .entry))) c ⌝ }
 {
-    let registers = s.value;
     let none = Old {
         address: 0,
         byte: 0,
@@ -89,29 +101,50 @@ fn record_of(s: Registers, mem: &[u8], dev: &[u8], c: Changes) -> Record
 }
 
 // A record more, in a journal with room for d: the bytes that are to be replaced are still there.
-fn note(g: Going, mem: &[u8], dev: &[u8], c: Changes, journal: &mut [u8], d: u16) -> Going
+fn note(
+    g: &[u16; 8],
+    ring: Ring,
+    mem: &[u8],
+    dev: &[u8],
+    c: Changes,
+    journal: &mut [u8],
+    d: u16,
+) -> Ring
     requires { ⌜ d ≡ room (now journal) ⌝ }
-    requires { ⌜ (g .held ≤ d) × (g .next < max 1 d) ⌝ }
-    ensures { λ r. ⌜ ((m : Machine) → state m (r .next) (r .held) ≡ advanced (state m (g .next) (g .held)) d) ⌝ }
+    requires { ⌜ (ring .held ≤ d) × (ring .next < max 1 d) ⌝ }
+    ensures { λ r. ⌜ ((m : Machine) → state m (r .next) (r .held) ≡ advanced (state m (ring .next) (ring .held)) d) ⌝ }
     ensures { λ _.
-        ⌜ now (journal .exit) ≡ noted (g .next) d (recordOf (g .registers) (lent (now (mem .entry)) (now (dev .entry))) c) (now (journal .entry)) ⌝ }
+        ⌜ now (journal .exit) ≡ noted (ring .next) d (recordOf (regs (now (g .entry))) (lent (now (mem .entry)) (now (dev .entry))) c) (now (journal .entry)) ⌝ }
 {
     if d == 0 {
-        return g;
+        return ring;
     }
-    let registers = g.registers;
-    let r = record_of(registers, mem, dev, c);
-    records::fill(journal, g.next, r);
-    Going {
-        registers,
-        next: records::slot_after(d, g.next),
-        held: records::one_more(d, g.held),
+    let r = record_of(*g, mem, dev, c);
+    records::fill(journal, ring.next, r);
+    Ring {
+        next: records::slot_after(d, ring.next),
+        held: records::one_more(d, ring.held),
+    }
+}
+
+// Nothing changes: PC, the sixth, gets what it has.
+fn unmoved(g: &[u16; 8], ring: Ring, answer: StepAnswer) -> Turned
+    ensures { λ r. ⌜ (r .answer ≡ answer) × (goingAfter (now (g .entry)) r ≡ goingFrom (now (g .entry)) ring) ⌝ }
+{
+    let pc = g[5];
+    Turned {
+        answer,
+        register: Register::PC,
+        value: pc,
+        pc,
+        ring,
     }
 }
 
 // A step of a valid state, which stays valid. Only what changes from step to step is handed on.
 pub fn turn(
-    g: Going,
+    g: &[u16; 8],
+    ring: Ring,
     mode: Mode,
     map: Map,
     mem: &mut [u8],
@@ -120,45 +153,34 @@ pub fn turn(
     d: u16,
 ) -> Turned
     requires { ⌜ d ≡ room (now journal) ⌝ }
-    requires { ⌜ valid (stateOf g mode map) (now dev) (now journal) ≡ true ⌝ }
+    requires { ⌜ valid (stateOf (goingFrom (now g) ring) mode map) (now dev) (now journal) ≡ true ⌝ }
     ensures { λ r.
-        ⌜ after (answered (r .answer)) (whole (stateOf (r .going) mode map) (lent (now (mem .exit)) (now (dev .exit))) (now (journal .exit))) ≡ step (whole (stateOf g mode map) (lent (now (mem .entry)) (now (dev .entry))) (now (journal .entry))) ⌝ }
-    ensures { λ r. ⌜ valid (stateOf (r .going) mode map) (now (dev .exit)) (now (journal .exit)) ≡ true ⌝ }
+        ⌜ after (answered (r .answer)) (whole (stateOf (goingAfter (now (g .entry)) r) mode map) (lent (now (mem .exit)) (now (dev .exit))) (now (journal .exit))) ≡ step (whole (stateOf (goingFrom (now (g .entry)) ring) mode map) (lent (now (mem .entry)) (now (dev .entry))) (now (journal .entry))) ⌝ }
+    ensures { λ r. ⌜ valid (stateOf (goingAfter (now (g .entry)) r) mode map) (now (dev .exit)) (now (journal .exit)) ≡ true ⌝ }
 {
-    let p = machine::plan_of(g.registers, mode, map, mem, dev);
+    let p = machine::move_of(g, mode, map, mem, dev);
     let answer = p.answer;
     if !is_accepted(answer) {
-        return Turned { answer, going: g };
+        return unmoved(g, ring, answer);
     }
     let c = p.changes;
-    let ring = note(g, mem, dev, c, journal, d);
+    let after = note(g, ring, mem, dev, c, journal, d);
     memory::make(c, mem, dev);
-    let registers = p.registers;
-    let going = Going {
-        registers,
-        next: ring.next,
-        held: ring.held,
-    };
-    Turned { answer, going }
-}
-
-// What changes of a state, and the state that has changed so.
-pub fn going_of(s: State) -> Going
-    ensures { λ g. ⌜ stateOf g (s .machine .mode) (s .machine .map) ≡ s ⌝ }
-{
-    let m = s.machine;
-    let registers = m.registers;
-    Going {
-        registers,
-        next: s.next,
-        held: s.held,
+    let register = p.register;
+    Turned {
+        answer,
+        register,
+        value: p.value,
+        pc: p.pc,
+        ring: after,
     }
 }
 
-pub fn state_of(g: Going, mode: Mode, map: Map) -> State
-    ensures { λ s. ⌜ s ≡ stateOf g mode map ⌝ }
+// The state, put together again.
+pub fn state_of(g: [u16; 8], ring: Ring, mode: Mode, map: Map) -> State
+    ensures { λ s. ⌜ s ≡ stateOf (goingFrom g ring) mode map ⌝ }
 {
-    let registers = g.registers;
+    let registers = Registers { value: g };
     let machine = Machine {
         registers,
         mode,
@@ -166,7 +188,7 @@ pub fn state_of(g: Going, mode: Mode, map: Map) -> State
     };
     State {
         machine,
-        next: g.next,
-        held: g.held,
+        next: ring.next,
+        held: ring.held,
     }
 }

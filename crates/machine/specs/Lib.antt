@@ -6,3 +6,4 @@ pub mod Plan
 pub mod Step
 pub mod Stores
 pub mod Marked
+pub mod Moves

@@ -1,15 +1,13 @@
 // Instructions that move, reckon and compare.
 use crate::Mode;
-use crate::Plan;
-use crate::Registers;
+use crate::Move;
 use crate::operands::flag;
 use crate::operands::get;
 use crate::operands::mark;
 use crate::operands::operand;
-use crate::operands::put;
 use crate::plans::go_on;
-use crate::plans::pause_or_next;
 use crate::plans::settle;
+use crate::plans::stay;
 use arithmetic::Total;
 use instruction::ArithOp;
 use instruction::ArithmeticOp;
@@ -23,31 +21,32 @@ ghost use Rattle.instruction.specs.declared.ArithOp.{ArithOp};
 ghost use Rattle.arithmetic.specs.Totals.{total};
 ghost use Rattle.memory.specs.Bytes.{lent};
 ghost use Rattle.machine.specs.Acts as act;
-ghost use Rattle.machine.specs.Plan.{planned, finished};
+ghost use Rattle.machine.specs.Moves.{Moves, regs};
+ghost use Rattle.machine.specs.Plan.{finished};
 
 // Nothing but PC.
-pub fn noop(mode: Mode, s: Registers) -> Plan
-    ensures { λ p. ⌜ planned p ≡ finished s (act.noop mode s) ⌝ }
+pub fn noop(mode: Mode, s: &[u16; 8]) -> Move
+    ensures { λ p. ⌜ Moves (now (s .entry)) p (λ g. finished g (act.noop mode g)) ⌝ }
 {
-    pause_or_next(s, mode.debug, s, Changes::Nothing)
+    stay(s, mode.debug, Changes::Nothing)
 }
 
-pub fn mov(s: Registers, d: Register, o: Operand) -> Plan
-    ensures { λ p. ⌜ planned p ≡ finished s (act.mov s d o) ⌝ }
+pub fn mov(s: &[u16; 8], d: Register, o: Operand) -> Move
+    ensures { λ p. ⌜ Moves (now (s .entry)) p (λ g. finished g (act.mov g d o)) ⌝ }
 {
-    go_on(s, put(s, d, operand(s, o)), Changes::Nothing)
+    go_on(s, d, operand(s, o), Changes::Nothing)
 }
 
-pub fn mov_shift(s: Registers, d: Register, amount: u8, left: bool, imm: u16) -> Plan
-    ensures { λ p. ⌜ planned p ≡ finished s (act.movShift s d amount left imm) ⌝ }
+pub fn mov_shift(s: &[u16; 8], d: Register, amount: u8, left: bool, imm: u16) -> Move
+    ensures { λ p. ⌜ Moves (now (s .entry)) p (λ g. finished g (act.movShift g d amount left imm)) ⌝ }
 {
     let v = arithmetic::moved(get(s, d), amount, left, imm);
-    go_on(s, put(s, d, v), Changes::Nothing)
+    go_on(s, d, v, Changes::Nothing)
 }
 
 // Where a remainder goes: its low byte at the old SP, if that takes a store.
-fn at_old_sp(m: Map, mem: &[u8], dev: &[u8], s: Registers, x: Total) -> Changes
-    ensures { λ c. ⌜ c ≡ act.atOldSp m (lent (now (mem .entry)) (now (dev .entry))) s (total x) ⌝ }
+fn at_old_sp(m: Map, mem: &[u8], dev: &[u8], s: &[u16; 8], x: Total) -> Changes
+    ensures { λ c. ⌜ c ≡ act.atOldSp m (lent (now (mem .entry)) (now (dev .entry))) (regs (now (s .entry))) (total x) ⌝ }
 {
     match x {
         Total::Is(v) => {
@@ -64,8 +63,8 @@ fn at_old_sp(m: Map, mem: &[u8], dev: &[u8], s: Registers, x: Total) -> Changes
     }
 }
 
-fn kept_by_div(m: Map, mem: &[u8], dev: &[u8], s: Registers, x: u16, y: u16) -> Changes
-    ensures { λ c. ⌜ c ≡ act.kept m (lent (now (mem .entry)) (now (dev .entry))) s ArithOp.Div x y ⌝ }
+fn kept_by_div(m: Map, mem: &[u8], dev: &[u8], s: &[u16; 8], x: u16, y: u16) -> Changes
+    ensures { λ c. ⌜ c ≡ act.kept m (lent (now (mem .entry)) (now (dev .entry))) (regs (now (s .entry))) ArithOp.Div x y ⌝ }
 {
     if flag(s, 1) {
         at_old_sp(m, mem, dev, s, arithmetic::remainder(x, y))
@@ -75,8 +74,8 @@ fn kept_by_div(m: Map, mem: &[u8], dev: &[u8], s: Registers, x: u16, y: u16) -> 
 }
 
 // What Arith stores beside its result: a division's remainder, where FLAGS bit 1 asks for it.
-fn kept(m: Map, mem: &[u8], dev: &[u8], s: Registers, op: ArithOp, x: u16, y: u16) -> Changes
-    ensures { λ c. ⌜ c ≡ act.kept m (lent (now (mem .entry)) (now (dev .entry))) s op x y ⌝ }
+fn kept(m: Map, mem: &[u8], dev: &[u8], s: &[u16; 8], op: ArithOp, x: u16, y: u16) -> Changes
+    ensures { λ c. ⌜ c ≡ act.kept m (lent (now (mem .entry)) (now (dev .entry))) (regs (now (s .entry))) op x y ⌝ }
 {
     match op {
         ArithOp::Add => Changes::Nothing,
@@ -90,12 +89,12 @@ pub fn arith(
     m: Map,
     mem: &[u8],
     dev: &[u8],
-    s: Registers,
+    s: &[u16; 8],
     d: Register,
     o: Operand,
     op: ArithOp,
-) -> Plan
-    ensures { λ p. ⌜ planned p ≡ finished s (act.arith m (lent (now (mem .entry)) (now (dev .entry))) s d o op) ⌝ }
+) -> Move
+    ensures { λ p. ⌜ Moves (now (s .entry)) p (λ g. finished g (act.arith m (lent (now (mem .entry)) (now (dev .entry))) g d o op)) ⌝ }
 {
     let x = get(s, d);
     let y = operand(s, o);
@@ -103,16 +102,16 @@ pub fn arith(
     settle(s, d, arithmetic::arith(op, x, y), c)
 }
 
-pub fn arith_reg_reg(s: Registers, d: Register, x: Register, y: Register, op: ArithmeticOp) -> Plan
-    ensures { λ p. ⌜ planned p ≡ finished s (act.arithRegReg s d x y op) ⌝ }
+pub fn arith_reg_reg(s: &[u16; 8], d: Register, x: Register, y: Register, op: ArithmeticOp) -> Move
+    ensures { λ p. ⌜ Moves (now (s .entry)) p (λ g. finished g (act.arithRegReg g d x y op)) ⌝ }
 {
     let v = arithmetic::arithmetic(op, get(s, x), get(s, y));
     settle(s, d, v, Changes::Nothing)
 }
 
-pub fn cmp(s: Registers, r: Register, o: Operand, op: CompareOp) -> Plan
-    ensures { λ p. ⌜ planned p ≡ finished s (act.cmp s r o op) ⌝ }
+pub fn cmp(s: &[u16; 8], r: Register, o: Operand, op: CompareOp) -> Move
+    ensures { λ p. ⌜ Moves (now (s .entry)) p (λ g. finished g (act.cmp g r o op)) ⌝ }
 {
     let holds = arithmetic::compare(op, get(s, r), operand(s, o));
-    go_on(s, mark(s, holds), Changes::Nothing)
+    go_on(s, Register::FLAGS, mark(s, holds), Changes::Nothing)
 }

@@ -1,14 +1,13 @@
 // Jumps, call and return: they set PC, and it is not raised.
-use crate::Plan;
-use crate::Registers;
+use crate::Move;
 use crate::operands::flag;
 use crate::operands::get;
 use crate::operands::mark;
 use crate::operands::operand;
-use crate::operands::put;
-use crate::plans::go_on;
+use crate::operands::operand_after;
 use crate::plans::land;
 use crate::plans::refused;
+use crate::plans::stay;
 use base::Reached;
 use base::Refusal;
 use instruction::Operand;
@@ -19,40 +18,44 @@ ghost use Rattle.base.specs.Addresses.{raisedPc};
 ghost use Rattle.instruction.specs.declared.Register.the-variants.{PC};
 ghost use Rattle.machine.specs.Registers as reg;
 ghost use Rattle.machine.specs.Acts as act;
-ghost use Rattle.machine.specs.Plan.{planned, finished};
+ghost use Rattle.machine.specs.Moves.{Moves};
+ghost use Rattle.machine.specs.Plan.{finished};
 
-pub fn jmp(s: Registers, o: Operand) -> Plan
-    ensures { λ p. ⌜ planned p ≡ finished s (act.jmp s o) ⌝ }
+pub fn jmp(s: &[u16; 8], o: Operand) -> Move
+    ensures { λ p. ⌜ Moves (now (s .entry)) p (λ g. finished g (act.jmp g o)) ⌝ }
 {
-    land(s, put(s, Register::PC, operand(s, o)))
+    let v = operand(s, o);
+    land(s, Register::PC, v, v)
 }
 
 // The flag that it looks at is cleared before its operand is read.
-pub fn cond_jmp(s: Registers, o: Operand) -> Plan
-    ensures { λ p. ⌜ planned p ≡ finished s (act.condJmp s o) ⌝ }
+pub fn cond_jmp(s: &[u16; 8], o: Operand) -> Move
+    ensures { λ p. ⌜ Moves (now (s .entry)) p (λ g. finished g (act.condJmp g o)) ⌝ }
 {
     if flag(s, 3) {
-        let t = mark(s, false);
-        land(s, put(t, Register::PC, operand(t, o)))
+        let v = mark(s, false);
+        let pc = operand_after(*s, Register::FLAGS, v, o);
+        land(s, Register::FLAGS, v, pc)
     } else {
-        go_on(s, s, Changes::Nothing)
+        stay(s, false, Changes::Nothing)
     }
 }
 
-fn call(s: Registers, address: u16) -> Plan
-    ensures { λ p. ⌜ planned p ≡ finished s (act.call s address (raisedPc (reg.get s PC))) ⌝ }
+fn call(s: &[u16; 8], address: u16) -> Move
+    ensures { λ p. ⌜ Moves (now (s .entry)) p (λ g. finished g (act.call g address (raisedPc (reg.get g PC)))) ⌝ }
 {
     match base::raised_pc(get(s, Register::PC)) {
-        Reached::At(n) => land(s, put(put(s, Register::PC, address), Register::M, n)),
+        Reached::At(n) => land(s, Register::M, n, address),
         Reached::Past => refused(s, Refusal::PcOverflow),
     }
 }
 
-pub fn call_ret(s: Registers, ret: bool, address: u16) -> Plan
-    ensures { λ p. ⌜ planned p ≡ finished s (act.callRet s ret address) ⌝ }
+pub fn call_ret(s: &[u16; 8], ret: bool, address: u16) -> Move
+    ensures { λ p. ⌜ Moves (now (s .entry)) p (λ g. finished g (act.callRet g ret address)) ⌝ }
 {
     if ret {
-        land(s, put(s, Register::PC, get(s, Register::M)))
+        let v = get(s, Register::M);
+        land(s, Register::PC, v, v)
     } else {
         call(s, address)
     }

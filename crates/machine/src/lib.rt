@@ -11,12 +11,14 @@ mod words;
 
 use base::Answer;
 use base::Refusal;
+use instruction::Register;
 use map::Map;
 use memory::Changes;
 pub use states::new;
 pub use states::set_register;
 pub use states::valid;
 pub use steps::commit;
+pub use steps::move_of;
 pub use steps::plan_of;
 pub use steps::plan_step;
 pub use steps::step;
@@ -49,6 +51,15 @@ pub enum StepAnswer {
 pub struct Plan {
     pub answer: StepAnswer,
     pub registers: Registers,
+    pub changes: Changes,
+}
+
+// The same, with what changes of the registers: one gets a value, and then PC its own.
+pub struct Move {
+    pub answer: StepAnswer,
+    pub register: Register,
+    pub value: u16,
+    pub pc: u16,
     pub changes: Changes,
 }
 

@@ -1,6 +1,7 @@
 // The step: planned, then committed.
 use crate::Machine;
 use crate::Mode;
+use crate::Move;
 use crate::Plan;
 use crate::Registers;
 use crate::StepAnswer;
@@ -8,36 +9,53 @@ use crate::Stepped;
 use crate::operands::flag;
 use crate::operands::get;
 use crate::plans::refused;
+use crate::plans::unmoved;
 use crate::states::valid;
 use crate::states::with_registers;
 use crate::words::act_on_word;
 use base::Refusal;
 use instruction::Register;
 use map::Map;
-use memory::Changes;
 use memory::WordRead;
 ghost use mathlib.Core.Path.{_≡_};
 ghost use Rattle.memory.specs.Bytes.{lent};
 ghost use Rattle.machine.specs.Answers.{answered};
+ghost use Rattle.machine.specs.Moves.{Moves};
 ghost use Rattle.machine.specs.Plan.{planned, plan};
 ghost use Rattle.machine.specs.States.{machine};
 ghost use Rattle.machine.specs.Step.{after, committed, step};
 
 // What a step comes to, of a machine in its parts. Nothing is stored, so that the bytes to be replaced can still be read.
-pub fn plan_of(s: Registers, mode: Mode, map: Map, mem: &[u8], dev: &[u8]) -> Plan
-    ensures { λ p. ⌜ planned p ≡ plan (machine s mode map) (lent (now (mem .entry)) (now (dev .entry))) ⌝ }
+pub fn move_of(s: &[u16; 8], mode: Mode, map: Map, mem: &[u8], dev: &[u8]) -> Move
+    ensures { λ p.
+        ⌜ Moves (now (s .entry)) p (λ g. plan (machine g mode map) (lent (now (mem .entry)) (now (dev .entry)))) ⌝ }
 {
     if flag(s, 0) {
-        return Plan {
-            answer: StepAnswer::Stop,
-            registers: s,
-            changes: Changes::Nothing,
-        };
+        return unmoved(s, StepAnswer::Stop);
     }
     match memory::fetch_word(map, mem, dev, get(s, Register::PC)) {
         WordRead::Word(w) => act_on_word(s, mode, map, mem, dev, w),
         WordRead::NoWord => refused(s, Refusal::FetchUnmapped),
         WordRead::Refused(r) => refused(s, r),
+    }
+}
+
+// The same, with the registers after it: one has its value, and PC, the sixth, its own.
+pub fn plan_of(s: Registers, mode: Mode, map: Map, mem: &[u8], dev: &[u8]) -> Plan
+    ensures { λ p. ⌜ planned p ≡ plan (machine s mode map) (lent (now (mem .entry)) (now (dev .entry))) ⌝ }
+{
+    let mut g = s.value;
+    let m = move_of(&g, mode, map, mem, dev);
+    let r = m.register;
+    let i = instruction::register_code(r) as usize;
+    g[i] = m.value;
+    g[5] = m.pc;
+    let answer = m.answer;
+    let changes = m.changes;
+    Plan {
+        answer,
+        registers: Registers { value: g },
+        changes,
     }
 }
 

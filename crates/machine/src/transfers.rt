@@ -1,11 +1,10 @@
 // Loads, stores and Cpy: what goes between registers and memory. Memory is read here, and nothing is stored yet.
-use crate::Plan;
-use crate::Registers;
+use crate::Move;
 use crate::operands::fail;
 use crate::operands::get;
-use crate::operands::put;
 use crate::plans::go_on;
 use crate::plans::refused;
+use crate::plans::stay;
 use base::Reached;
 use base::Refusal;
 use instruction::Register;
@@ -20,43 +19,44 @@ ghost use Rattle.base.specs.Addresses.{basePlusShift};
 ghost use Rattle.memory.specs.Bytes.{lent};
 ghost use Rattle.machine.specs.Registers as reg;
 ghost use Rattle.machine.specs.Acts as act;
-ghost use Rattle.machine.specs.Plan.{planned, finished};
+ghost use Rattle.machine.specs.Moves.{Moves};
+ghost use Rattle.machine.specs.Plan.{finished};
 
 // A word that was read goes into r; where there was none, r stays.
-fn load_word(s: Registers, r: Register, x: WordRead) -> Plan
-    ensures { λ p. ⌜ planned p ≡ finished s (act.wordLoaded s r x) ⌝ }
+fn load_word(s: &[u16; 8], r: Register, x: WordRead) -> Move
+    ensures { λ p. ⌜ Moves (now (s .entry)) p (λ g. finished g (act.wordLoaded g r x)) ⌝ }
 {
     match x {
-        WordRead::Word(w) => go_on(s, put(s, r, w), Changes::Nothing),
-        WordRead::NoWord => go_on(s, s, Changes::Nothing),
+        WordRead::Word(w) => go_on(s, r, w, Changes::Nothing),
+        WordRead::NoWord => stay(s, false, Changes::Nothing),
         WordRead::Refused(e) => refused(s, e),
     }
 }
 
-fn load_byte(s: Registers, r: Register, x: Read) -> Plan
-    ensures { λ p. ⌜ planned p ≡ finished s (act.byteLoaded s r x) ⌝ }
+fn load_byte(s: &[u16; 8], r: Register, x: Read) -> Move
+    ensures { λ p. ⌜ Moves (now (s .entry)) p (λ g. finished g (act.byteLoaded g r x)) ⌝ }
 {
     match x {
-        Read::Byte(v, _) => go_on(s, put(s, r, v as u16), Changes::Nothing),
-        Read::Unmapped => go_on(s, s, Changes::Nothing),
+        Read::Byte(v, _) => go_on(s, r, v as u16, Changes::Nothing),
+        Read::Unmapped => stay(s, false, Changes::Nothing),
     }
 }
 
 // A store that memory has decided. A failed one sets the flags, and keeps the byte that was taken.
-fn end_store(s: Registers, d: Decision) -> Plan
-    ensures { λ p. ⌜ planned p ≡ finished s (act.storing s d) ⌝ }
+fn end_store(s: &[u16; 8], d: Decision) -> Move
+    ensures { λ p. ⌜ Moves (now (s .entry)) p (λ g. finished g (act.storing g d)) ⌝ }
 {
     let c = d.changes;
     let r = d.outcome;
     match r {
-        Stored::Done => go_on(s, s, c),
-        Stored::Failed => go_on(s, fail(s), c),
+        Stored::Done => stay(s, false, c),
+        Stored::Failed => go_on(s, Register::FLAGS, fail(s), c),
         Stored::Refused(e) => refused(s, e),
     }
 }
 
-fn word_at(m: Map, mem: &[u8], dev: &[u8], s: Registers, r: Register, store: bool, a: u16) -> Plan
-    ensures { λ p. ⌜ planned p ≡ finished s (act.wordAt m (lent (now (mem .entry)) (now (dev .entry))) s r store a) ⌝ }
+fn word_at(m: Map, mem: &[u8], dev: &[u8], s: &[u16; 8], r: Register, store: bool, a: u16) -> Move
+    ensures { λ p. ⌜ Moves (now (s .entry)) p (λ g. finished g (act.wordAt m (lent (now (mem .entry)) (now (dev .entry))) g r store a)) ⌝ }
 {
     if store {
         end_store(
@@ -68,8 +68,8 @@ fn word_at(m: Map, mem: &[u8], dev: &[u8], s: Registers, r: Register, store: boo
     }
 }
 
-fn byte_at(m: Map, mem: &[u8], dev: &[u8], s: Registers, r: Register, store: bool, a: u16) -> Plan
-    ensures { λ p. ⌜ planned p ≡ finished s (act.byteAt m (lent (now (mem .entry)) (now (dev .entry))) s r store a) ⌝ }
+fn byte_at(m: Map, mem: &[u8], dev: &[u8], s: &[u16; 8], r: Register, store: bool, a: u16) -> Move
+    ensures { λ p. ⌜ Moves (now (s .entry)) p (λ g. finished g (act.byteAt m (lent (now (mem .entry)) (now (dev .entry))) g r store a)) ⌝ }
 {
     if store {
         end_store(
@@ -85,14 +85,14 @@ pub fn ldr_str(
     m: Map,
     mem: &[u8],
     dev: &[u8],
-    s: Registers,
+    s: &[u16; 8],
     r: Register,
     addr: Register,
     store: bool,
     shift: u8,
-) -> Plan
+) -> Move
     ensures { λ p.
-        ⌜ planned p ≡ finished s (act.ldrStr m (lent (now (mem .entry)) (now (dev .entry))) s r store (basePlusShift (reg.get s addr) shift)) ⌝ }
+        ⌜ Moves (now (s .entry)) p (λ g. finished g (act.ldrStr m (lent (now (mem .entry)) (now (dev .entry))) g r store (basePlusShift (reg.get g addr) shift))) ⌝ }
 {
     match base::base_plus_shift(get(s, addr), shift) {
         Reached::At(a) => word_at(m, mem, dev, s, r, store, a),
@@ -104,14 +104,14 @@ pub fn ldb_stb(
     m: Map,
     mem: &[u8],
     dev: &[u8],
-    s: Registers,
+    s: &[u16; 8],
     r: Register,
     addr: Register,
     store: bool,
     shift: u8,
-) -> Plan
+) -> Move
     ensures { λ p.
-        ⌜ planned p ≡ finished s (act.ldbStb m (lent (now (mem .entry)) (now (dev .entry))) s r store (basePlusShift (reg.get s addr) shift)) ⌝ }
+        ⌜ Moves (now (s .entry)) p (λ g. finished g (act.ldbStb m (lent (now (mem .entry)) (now (dev .entry))) g r store (basePlusShift (reg.get g addr) shift))) ⌝ }
 {
     match base::base_plus_shift(get(s, addr), shift) {
         Reached::At(a) => byte_at(m, mem, dev, s, r, store, a),
@@ -119,14 +119,14 @@ pub fn ldb_stb(
     }
 }
 
-pub fn cpy(m: Map, mem: &[u8], dev: &[u8], s: Registers, src: Register, dst: Register) -> Plan
-    ensures { λ p. ⌜ planned p ≡ finished s (act.cpy m (lent (now (mem .entry)) (now (dev .entry))) s src dst) ⌝ }
+pub fn cpy(m: Map, mem: &[u8], dev: &[u8], s: &[u16; 8], src: Register, dst: Register) -> Move
+    ensures { λ p. ⌜ Moves (now (s .entry)) p (λ g. finished g (act.cpy m (lent (now (mem .entry)) (now (dev .entry))) g src dst)) ⌝ }
 {
     match memory::read_byte(m, mem, dev, get(s, src)) {
         Read::Byte(v, _) => end_store(
             s,
             memory::decide_byte(m, mem.len(), dev.len(), get(s, dst), v),
         ),
-        Read::Unmapped => go_on(s, fail(s), Changes::Nothing),
+        Read::Unmapped => go_on(s, Register::FLAGS, fail(s), Changes::Nothing),
     }
 }

@@ -2,8 +2,7 @@
 // No Instruction is made of the word and matched again: that, with a Machine handed on whole, was nearly half of a step's time.
 // That it comes to the same is proved: the contracts say what is planned for the instruction that `instruction::decode` finds.
 use crate::Mode;
-use crate::Plan;
-use crate::Registers;
+use crate::Move;
 use crate::actions::arith;
 use crate::actions::arith_reg_reg;
 use crate::actions::cmp;
@@ -34,14 +33,15 @@ ghost use Rattle.instruction.specs.Decode.{decode};
 ghost use Rattle.memory.specs.Bytes.{Lent, lent};
 ghost use Rattle.map.specs.declared.Map.{Map};
 ghost use Rattle.machine.specs.declared.Mode.{Mode};
-ghost use Rattle.machine.specs.Plan.{planned, decoded};
+ghost use Rattle.machine.specs.Moves.{Moves};
+ghost use Rattle.machine.specs.Plan.{decoded};
 ghost use Rattle.machine.specs.States.{machine};
 
 // Three rows of the table in which another field decides too. They use registers alone, so that their contracts hold of any mode,
 // map and bytes.
-fn act_on_cond_jmp(s: Registers, w: u16) -> Plan
+fn act_on_cond_jmp(s: &[u16; 8], w: u16) -> Move
     requires { ⌜ fieldOf w 0 4 ≡ 5 ⌝ }
-    ensures { λ p. ⌜ ((mode : Mode) (map : Map) (b : Lent) → planned p ≡ decoded (machine s mode map) b (decode w)) ⌝ }
+    ensures { λ p. ⌜ ((mode : Mode) (map : Map) (b : Lent) → Moves (now (s .entry)) p (λ g. decoded (machine g mode map) b (decode w))) ⌝ }
 {
     let o = operand_at(w, 4, 11);
     if jumps_always(o) {
@@ -51,9 +51,9 @@ fn act_on_cond_jmp(s: Registers, w: u16) -> Plan
     }
 }
 
-fn act_on_cmp(s: Registers, w: u16) -> Plan
+fn act_on_cmp(s: &[u16; 8], w: u16) -> Move
     requires { ⌜ fieldOf w 0 4 ≡ 7 ⌝ }
-    ensures { λ p. ⌜ ((mode : Mode) (map : Map) (b : Lent) → planned p ≡ decoded (machine s mode map) b (decode w)) ⌝ }
+    ensures { λ p. ⌜ ((mode : Mode) (map : Map) (b : Lent) → Moves (now (s .entry)) p (λ g. decoded (machine g mode map) b (decode w))) ⌝ }
 {
     let k = field(w, 7, 3);
     if k < 6 {
@@ -63,9 +63,9 @@ fn act_on_cmp(s: Registers, w: u16) -> Plan
     }
 }
 
-fn act_on_arith_reg_reg(s: Registers, w: u16) -> Plan
+fn act_on_arith_reg_reg(s: &[u16; 8], w: u16) -> Move
     requires { ⌜ fieldOf w 0 4 ≡ 10 ⌝ }
-    ensures { λ p. ⌜ ((mode : Mode) (map : Map) (b : Lent) → planned p ≡ decoded (machine s mode map) b (decode w)) ⌝ }
+    ensures { λ p. ⌜ ((mode : Mode) (map : Map) (b : Lent) → Moves (now (s .entry)) p (λ g. decoded (machine g mode map) b (decode w))) ⌝ }
 {
     let k = field(w, 7, 3);
     if k < 7 {
@@ -82,8 +82,8 @@ fn act_on_arith_reg_reg(s: Registers, w: u16) -> Plan
 }
 
 // Each row of the table, 0 to 11, with the fields that it names.
-pub fn act_on_word(s: Registers, mode: Mode, map: Map, mem: &[u8], dev: &[u8], w: u16) -> Plan
-    ensures { λ p. ⌜ planned p ≡ decoded (machine s mode map) (lent (now (mem .entry)) (now (dev .entry))) (decode w) ⌝ }
+pub fn act_on_word(s: &[u16; 8], mode: Mode, map: Map, mem: &[u8], dev: &[u8], w: u16) -> Move
+    ensures { λ p. ⌜ Moves (now (s .entry)) p (λ g. decoded (machine g mode map) (lent (now (mem .entry)) (now (dev .entry))) (decode w)) ⌝ }
 {
     let d = register_at(w, 4);
     match field(w, 0, 4) {

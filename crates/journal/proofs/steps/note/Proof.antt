@@ -35,7 +35,7 @@ unfolding advanced noted
 returns-2 c =
     let x = c .before .before .before .before .before .before .before .before .before .before .before .before .args in
     let e : eqb (x .d) 0 ≡ false = ne-eqb (x .d) 0 (c .before .before .before .before .before .before .before .before .if1 .left) in
-    (λ m. rw (e, c .before .slot-after .ensures, c .one-more .ensures), rw e (c .before .before .before .before .fill .ensures ∙ ap (filled (now (x .journal)) (x .g .next)) (c .before .before .before .before .before .before .record-of .ensures)))
+    (λ m. rw (e, c .before .slot-after .ensures, c .one-more .ensures), rw e (c .before .before .before .before .fill .ensures ∙ ap (filled (now (x .journal)) (x .ring .next)) (c .before .before .before .before .before .before .record-of .ensures)))
 
 pub note-spec : {M : Type 1} → statement M
 note-spec =

@@ -1,6 +1,6 @@
 -- The comparison is marked in FLAGS. Assumes nothing.
 use mathlib.Core.Path.{_∙_}
-use Rattle.machine.specs.Acts.{cmp}
+use Rattle.machine.specs.Acts.{cmp, marked}
 use borrow.Author.Needs.{needs}
 use Rattle.machine.proofs.actions.cmp.Statement.{statement}
 use Rattle.machine.proofs.actions.cmp.Tie as tie
@@ -21,7 +21,7 @@ go-on-requires : tie.Need-go-on-requires
 go-on-requires c κs = search needs
 
 returns : tie.Need-returns
-unfolding cmp
+unfolding cmp marked
 returns c = c .go-on .ensures ∙ rw (c .before .mark .ensures, c .before .before .compare .ensures, c .before .before .before .operand .ensures, c .before .before .before .before .get .ensures)
 
 pub cmp-spec : {M : Type 1} → statement M

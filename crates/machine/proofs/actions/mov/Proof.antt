@@ -8,15 +8,12 @@ use Rattle.machine.proofs.actions.mov.Tie as tie
 operand-requires : tie.Need-operand-requires
 operand-requires c κs = search needs
 
-put-requires : tie.Need-put-requires
-put-requires c κs = search needs
-
 go-on-requires : tie.Need-go-on-requires
 go-on-requires c κs = search needs
 
 returns : tie.Need-returns
 unfolding mov
-returns c = c .go-on .ensures ∙ rw (c .before .put .ensures, c .before .before .operand .ensures)
+returns c = c .go-on .ensures ∙ rw (c .before .operand .ensures)
 
 pub mov-spec : {M : Type 1} → statement M
-mov-spec = tie.close (tie.spec operand-requires put-requires go-on-requires returns)
+mov-spec = tie.close (tie.spec operand-requires go-on-requires returns)

@@ -11,16 +11,13 @@ get-requires c κs = search needs
 moved-requires : tie.Need-moved-requires
 moved-requires c κs = search needs
 
-put-requires : tie.Need-put-requires
-put-requires c κs = search needs
-
 go-on-requires : tie.Need-go-on-requires
 go-on-requires c κs = search needs
 
 returns : tie.Need-returns
 unfolding movShift
-returns c = c .go-on .ensures ∙ rw (c .before .put .ensures, c .before .before .moved .ensures, c .before .before .before .get .ensures)
+returns c = c .go-on .ensures ∙ rw (c .before .moved .ensures, c .before .before .get .ensures)
 
 pub mov-shift-spec : {M : Type 1} → statement M
 mov-shift-spec =
-    tie.close (tie.spec get-requires moved-requires put-requires go-on-requires returns)
+    tie.close (tie.spec get-requires moved-requires go-on-requires returns)

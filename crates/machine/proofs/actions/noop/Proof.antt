@@ -4,12 +4,12 @@ use borrow.Author.Needs.{needs}
 use Rattle.machine.proofs.actions.noop.Statement.{statement}
 use Rattle.machine.proofs.actions.noop.Tie as tie
 
-pause-or-next-requires : tie.Need-pause-or-next-requires
-pause-or-next-requires c κs = search needs
+stay-requires : tie.Need-stay-requires
+stay-requires c κs = search needs
 
 returns : tie.Need-returns
 unfolding noop
-returns c = c .pause-or-next .ensures
+returns c = c .stay .ensures
 
 pub noop-spec : {M : Type 1} → statement M
-noop-spec = tie.close (tie.spec pause-or-next-requires returns)
+noop-spec = tie.close (tie.spec stay-requires returns)

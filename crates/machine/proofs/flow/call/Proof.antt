@@ -1,4 +1,5 @@
 -- M is the raised PC, where there is one. Assumes nothing.
+use denote.Ref.{now}
 use mathlib.Core.Path.{_≡_, sym, ap, _∙_}
 use Rattle.base.specs.Addresses.{raisedPc}
 use Rattle.base.specs.declared.addresses.Reached.the-variants.{At, Past}
@@ -6,6 +7,8 @@ use Rattle.instruction.specs.declared.Register.the-variants.{PC}
 use Rattle.machine.specs.Registers.{get}
 use Rattle.machine.specs.Acts.{call}
 use Rattle.machine.specs.Plan.{finished}
+use Rattle.machine.proofs.RegisterLaws.{put-apart}
+use Rattle.machine.specs.Moves.{regs}
 use borrow.Author.Needs.{needs}
 use Rattle.machine.proofs.flow.call.Statement.{statement}
 use Rattle.machine.proofs.flow.call.Tie as tie
@@ -19,12 +22,6 @@ raised-pc-requires c κs = search needs
 enum-known-n : tie.Need-enum-known-n
 enum-known-n c = search needs
 
-put-requires : tie.Need-put-requires
-put-requires c κs = search needs
-
-put-requires-2 : tie.Need-put-requires-2
-put-requires-2 c κs = search needs
-
 land-requires : tie.Need-land-requires
 land-requires c κs = search needs
 
@@ -37,13 +34,13 @@ refused-requires c κs = search needs
 returns : tie.Need-returns
 unfolding call
 returns c =
-    let e : raisedPc (get (c .before .before .before .before .before .before .before .before .args .s) PC) ≡ At (c .before .before .before .before .n .given .0 .0) = ap raisedPc (sym (c .before .before .before .before .before .before .before .get .ensures)) ∙ sym (c .before .before .before .before .before .before .raised-pc .ensures) ∙ c .before .before .before .before .n .given .1 in
-    c .land .ensures ∙ rw (c .before .put2 .ensures, c .before .before .put .ensures, e)
+    let e : raisedPc (get (regs (now (c .before .before .before .before .before .before .args .s))) PC) ≡ At (c .before .before .n .given .0 .0) = ap raisedPc (sym (c .before .before .before .before .before .get .ensures)) ∙ sym (c .before .before .before .before .raised-pc .ensures) ∙ c .before .before .n .given .1 in
+    c .land .ensures ∙ rw (put-apart _ _ _, e)
 
 returns-2 : tie.Need-returns-2
 unfolding call finished
 returns-2 c =
-    let e : raisedPc (get (c .before .before .before .before .before .args .s) PC) ≡ Past = ap raisedPc (sym (c .before .before .before .before .get .ensures)) ∙ sym (c .before .before .before .raised-pc .ensures) ∙ c .before .enum-told .given .1 in
+    let e : raisedPc (get (regs (now (c .before .before .before .before .before .args .s))) PC) ≡ Past = ap raisedPc (sym (c .before .before .before .before .get .ensures)) ∙ sym (c .before .before .before .raised-pc .ensures) ∙ c .before .enum-told .given .1 in
     c .refused .ensures ∙ rw (e)
 
 pub call-spec : {M : Type 1} → statement M
@@ -53,8 +50,6 @@ call-spec =
     get-requires
     raised-pc-requires
     enum-known-n
-    put-requires
-    put-requires-2
     land-requires
     enum-told
     refused-requires

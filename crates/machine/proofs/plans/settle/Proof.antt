@@ -9,9 +9,6 @@ use Rattle.machine.proofs.plans.settle.Tie as tie
 enum-known-x : tie.Need-enum-known-x
 enum-known-x c = search needs
 
-put-requires : tie.Need-put-requires
-put-requires c κs = search needs
-
 go-on-requires : tie.Need-go-on-requires
 go-on-requires c κs = search needs
 
@@ -23,7 +20,7 @@ refused-requires c κs = search needs
 
 returns : tie.Need-returns
 unfolding result
-returns c = c .go-on .ensures ∙ rw (c .before .put .ensures, c .before .before .before .x .given .1)
+returns c = c .go-on .ensures ∙ rw (c .before .before .x .given .1)
 
 returns-2 : tie.Need-returns-2
 unfolding result finished
@@ -34,7 +31,6 @@ settle-spec =
     tie.close
     (tie.spec
     enum-known-x
-    put-requires
     go-on-requires
     enum-known-x-2
     refused-requires

@@ -5,7 +5,8 @@ use denote.Ref.{now}
 use Rattle.memory.specs.Bytes.{lent, readByte}
 use Rattle.memory.specs.declared.Read.the-variants.{Byte, Unmapped}
 use Rattle.machine.specs.Registers.{get}
-use Rattle.machine.specs.Acts.{copied, cpy}
+use Rattle.machine.specs.Acts.{copied, cpy, fault}
+use Rattle.machine.specs.Moves.{regs}
 use borrow.Author.Needs.{needs}
 use Rattle.machine.proofs.transfers.cpy.Statement.{statement}
 use Rattle.machine.proofs.transfers.cpy.Tie as tie
@@ -42,15 +43,15 @@ unfolding cpy copied
 returns c =
     let x = c .before .before .before .before .before .before .before .before .before .before .args in
     let b = lent (now (x .mem)) (now (x .dev)) in
-    let e : readByte (x .m) b (get (x .s) (x .src)) ≡ Byte (c .before .before .before .before .v .given .0 .0) (c .before .before .before .before .v .given .0 .1 .0) = ap (λ (a : ℕ). readByte (x .m) b a) (sym (c .before .before .before .before .before .before .before .get .ensures)) ∙ sym (c .before .before .before .before .before .before .read-byte .ensures) ∙ c .before .before .before .before .v .given .1 in
+    let e : readByte (x .m) b (get (regs (now (x .s))) (x .src)) ≡ Byte (c .before .before .before .before .v .given .0 .0) (c .before .before .before .before .v .given .0 .1 .0) = ap (λ (a : ℕ). readByte (x .m) b a) (sym (c .before .before .before .before .before .before .before .get .ensures)) ∙ sym (c .before .before .before .before .before .before .read-byte .ensures) ∙ c .before .before .before .before .v .given .1 in
     c .end-store .ensures ∙ rw (c .before .decide-byte .ensures, c .before .before .get2 .ensures, e)
 
 returns-2 : tie.Need-returns-2
-unfolding cpy copied
+unfolding cpy copied fault
 returns-2 c =
     let x = c .before .before .before .before .before .before .before .before .args in
     let b = lent (now (x .mem)) (now (x .dev)) in
-    let e : readByte (x .m) b (get (x .s) (x .src)) ≡ Unmapped = ap (λ (a : ℕ). readByte (x .m) b a) (sym (c .before .before .before .before .before .get .ensures)) ∙ sym (c .before .before .before .before .read-byte .ensures) ∙ c .before .before .enum-told .given .1 in
+    let e : readByte (x .m) b (get (regs (now (x .s))) (x .src)) ≡ Unmapped = ap (λ (a : ℕ). readByte (x .m) b a) (sym (c .before .before .before .before .before .get .ensures)) ∙ sym (c .before .before .before .before .read-byte .ensures) ∙ c .before .before .enum-told .given .1 in
     c .go-on .ensures ∙ rw (c .before .fail .ensures, e)
 
 pub cpy-spec : {M : Type 1} → statement M

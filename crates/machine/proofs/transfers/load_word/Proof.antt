@@ -9,17 +9,14 @@ use Rattle.machine.proofs.transfers.load_word.Tie as tie
 enum-known-x : tie.Need-enum-known-x
 enum-known-x c = search needs
 
-put-requires : tie.Need-put-requires
-put-requires c κs = search needs
-
 go-on-requires : tie.Need-go-on-requires
 go-on-requires c κs = search needs
 
 enum-told : tie.Need-enum-told
 enum-told c = search needs
 
-go-on-requires-2 : tie.Need-go-on-requires-2
-go-on-requires-2 c κs = search needs
+stay-requires : tie.Need-stay-requires
+stay-requires c κs = search needs
 
 enum-known-x-2 : tie.Need-enum-known-x-2
 enum-known-x-2 c = search needs
@@ -29,11 +26,11 @@ refused-requires c κs = search needs
 
 returns : tie.Need-returns
 unfolding wordLoaded
-returns c = c .go-on .ensures ∙ rw (c .before .put .ensures, c .before .before .before .x .given .1)
+returns c = c .go-on .ensures ∙ rw (c .before .before .x .given .1)
 
 returns-2 : tie.Need-returns-2
 unfolding wordLoaded
-returns-2 c = c .go-on2 .ensures ∙ rw (c .before .enum-told .given .1)
+returns-2 c = c .stay .ensures ∙ rw (c .before .enum-told .given .1)
 
 returns-3 : tie.Need-returns-3
 unfolding wordLoaded finished
@@ -44,10 +41,9 @@ load-word-spec =
     tie.close
     (tie.spec
     enum-known-x
-    put-requires
     go-on-requires
     enum-told
-    go-on-requires-2
+    stay-requires
     enum-known-x-2
     refused-requires
     returns
