@@ -1,96 +1,133 @@
-// The short answers.
-use crate::output;
-use crate::state::State;
-use crate::state::with_whole;
+// What the libraries answer, as text.
+use crate::said::Said;
+use crate::said::add;
+use crate::said::decimal;
+use crate::said::put;
+use crate::said::word;
+use asm::Assembled;
 use base::Answer;
+use base::Refusal;
+use journal::State;
 use machine::StepAnswer;
+use memory::Read;
+use memory::ReadOut;
+use memory::Stored;
+use memory::WordRead;
+use printer::Printed;
 
-pub enum Said {
-    Done,
-    Failed,
-    // Nobody answers at the address.
-    Missing,
-    // The line is no command, or a field of it is bad.
-    Bad,
-    Refused(u8),
-    Number(u16),
-    Stepped(StepAnswer),
-    // A run's last step, and how many were accepted.
-    Ran(StepAnswer, u32),
-}
-
-// What a command that may change the state comes to.
+// What a command comes to: the state after it, and its answer.
 pub struct Outcome {
     pub state: State,
     pub said: Said,
 }
 
-// The state after a line, and the place after its answer in the output.
-pub struct Turn {
-    pub state: State,
-    pub at: usize,
-}
-
-pub fn verdict(a: Answer) -> Said {
-    match a {
-        Answer::Accepted => Said::Done,
-        Answer::Refused(r) => Said::Refused(base::number(r)),
-    }
-}
-
-pub fn changed(state: State, said: Said) -> Outcome {
+pub fn speak(state: State, said: Said) -> Outcome {
     Outcome { state, said }
 }
 
+// The command has a bad field, and changes nothing.
+pub fn bad(state: State) -> Outcome {
+    speak(state, word(b"?"))
+}
+
+pub fn done(state: State) -> Outcome {
+    speak(state, word(b"ok"))
+}
+
 // What an entry of the whole state comes to.
-pub fn after(s: State, q: journal::Changed) -> Outcome {
-    let w = q.state;
+pub fn after(q: journal::Changed) -> Outcome {
+    let state = q.state;
     let answer = q.answer;
-    changed(with_whole(s, w), verdict(answer))
+    speak(state, verdict(answer))
 }
 
-pub fn refused(out: &mut [u8], at: usize, n: u8) -> usize {
-    let p = output::text(out, at, b"no ");
-    output::decimal(out, p, n as u64)
+pub fn number(n: u64) -> Said {
+    decimal(word(b""), n)
 }
 
-fn stepped(out: &mut [u8], at: usize, a: StepAnswer) -> usize {
+pub fn refused(r: Refusal) -> Said {
+    decimal(word(b"no "), base::number(r) as u64)
+}
+
+fn verdict(a: Answer) -> Said {
     match a {
-        StepAnswer::Continue => output::text(out, at, b"continue"),
-        StepAnswer::Debug => output::text(out, at, b"debug"),
-        StepAnswer::Stop => output::text(out, at, b"stop"),
-        StepAnswer::Refused(r) => refused(out, at, base::number(r)),
+        Answer::Accepted => word(b"ok"),
+        Answer::Refused(r) => refused(r),
     }
 }
 
-fn ran(out: &mut [u8], at: usize, a: StepAnswer, count: u32) -> usize {
-    let p = stepped(out, at, a);
-    let p = output::put(out, p, b' ');
-    output::decimal(out, p, count as u64)
-}
-
-pub fn say(out: &mut [u8], at: usize, said: Said) -> usize {
-    match said {
-        Said::Done => output::text(out, at, b"ok"),
-        Said::Failed => output::text(out, at, b"failed"),
-        Said::Missing => output::text(out, at, b"none"),
-        Said::Bad => output::put(out, at, b'?'),
-        Said::Refused(n) => refused(out, at, n),
-        Said::Number(n) => output::decimal(out, at, n as u64),
-        Said::Stepped(a) => stepped(out, at, a),
-        Said::Ran(a, n) => ran(out, at, a, n),
+pub fn stepped(a: StepAnswer) -> Said {
+    match a {
+        StepAnswer::Continue => word(b"continue"),
+        StepAnswer::Debug => word(b"debug"),
+        StepAnswer::Stop => word(b"stop"),
+        StepAnswer::Refused(r) => refused(r),
     }
 }
 
-// The turn of a command that leaves the state.
-pub fn kept(state: State, at: usize) -> Turn {
-    Turn { state, at }
+// A run's last step, and how many were accepted.
+pub fn ran(a: StepAnswer, count: u32) -> Said {
+    decimal(put(stepped(a), b' '), count as u64)
 }
 
-// The turn of a command that may change it.
-pub fn spoken(c: Outcome, out: &mut [u8], at: usize) -> Turn {
-    let state = c.state;
-    let said = c.said;
-    let p = say(out, at, said);
-    Turn { state, at: p }
+pub fn byte_read(r: Read) -> Said {
+    match r {
+        Read::Byte(v, _) => number(v as u64),
+        Read::Unmapped => word(b"none"),
+    }
+}
+
+pub fn word_read(r: WordRead) -> Said {
+    match r {
+        WordRead::Word(w) => number(w as u64),
+        WordRead::NoWord => word(b"none"),
+        WordRead::Refused(r) => refused(r),
+    }
+}
+
+pub fn byte_stored(is_stored: bool) -> Said {
+    if is_stored {
+        return word(b"ok");
+    }
+    word(b"failed")
+}
+
+pub fn word_stored(r: Stored) -> Said {
+    match r {
+        Stored::Done => word(b"ok"),
+        Stored::Failed => word(b"failed"),
+        Stored::Refused(r) => refused(r),
+    }
+}
+
+pub fn counted(r: ReadOut) -> Said {
+    match r {
+        ReadOut::Count(n) => number(n as u64),
+        ReadOut::Refused(r) => refused(r),
+    }
+}
+
+pub fn printed(r: Printed) -> Said {
+    match r {
+        Printed::Next(n) => number(n as u64),
+        Printed::Refused(r) => refused(r),
+    }
+}
+
+// The counts of an accepted text, or the refusal with its line.
+pub fn assembled(r: Assembled) -> Said {
+    match r {
+        Assembled::Accepted(words, labels, open) => totals(words, labels, open),
+        Assembled::Refused(r, line) => refused_at(r, line),
+    }
+}
+
+fn totals(words: usize, labels: usize, open: usize) -> Said {
+    let t = decimal(word(b"ok "), words as u64);
+    let t = decimal(put(t, b' '), labels as u64);
+    decimal(put(t, b' '), open as u64)
+}
+
+fn refused_at(r: Refusal, line: usize) -> Said {
+    decimal(add(refused(r), b" line "), line as u64)
 }

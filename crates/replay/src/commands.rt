@@ -1,224 +1,207 @@
-// What each command does. A command is one function that reads its fields, from `at` on, and one entry here; which
-// entry stands where goes by the buffers that it needs (names.rt), so that each function is lent no more than that.
+// What each command does. A command is a row in names.rt, an arm here, among those that are lent what it needs, and one
+// function, which is handed the fields of its line and answers the state after it with what is said.
 use crate::answers::Outcome;
-use crate::answers::Said;
-use crate::answers::Turn;
-use crate::answers::changed;
-use crate::answers::kept;
-use crate::answers::say;
-use crate::answers::spoken;
+use crate::answers::bad;
+use crate::answers::speak;
 use crate::assembling::assemble;
 use crate::assembling::assemble_copies;
-use crate::bytes::byte_put;
-use crate::bytes::byte_read;
-use crate::bytes::poke;
-use crate::bytes::word_put;
-use crate::bytes::word_read;
+use crate::bytes::byte;
+use crate::bytes::put;
+use crate::bytes::put_word;
+use crate::bytes::word;
 use crate::dumps::print_state;
 use crate::dumps::read;
 use crate::instructions::decode;
 use crate::instructions::encode;
 use crate::instructions::print;
-use crate::journals::back;
-use crate::journals::cursor;
-use crate::journals::forget;
+use crate::lines;
+use crate::lines::Command;
+use crate::lines::spelt_out;
 use crate::listings::listing;
 use crate::loads::load;
 use crate::loads::load_same;
+use crate::machines::back;
+use crate::machines::cursor;
+use crate::machines::forget;
 use crate::machines::regs;
 use crate::machines::run;
 use crate::machines::set;
 use crate::machines::step;
 use crate::names;
-use crate::parse::name_end;
-use crate::setup::make;
+use crate::output;
+use crate::said::Said;
+use crate::setup::poke;
+use crate::setup::seed;
 use crate::single_lines::parse_line;
-use crate::state::State;
+use crate::state::Script;
+use crate::state::found;
+use crate::state::with_state;
 use crate::tables::protect;
 use crate::tables::register;
 use crate::tables::tables;
+use journal::State;
+ghost use Prim.Native.Nat.{_≤_};
+
+// The script after a line, and the place after its answer in the output.
+pub struct Turn {
+    pub script: Script,
+    pub at: usize,
+}
 
 // Commands that store nothing.
-fn on_state(c: u16, s: State, line: &[u8], at: usize, dev: &[u8], journal: &[u8]) -> Outcome {
-    if c == names::TABLES {
-        return tables(s, line, at);
+fn looking(w: State, c: Command, line: &[u8], mem: &[u8], dev: &[u8], journal: &[u8]) -> Outcome {
+    let name = c.name;
+    match name {
+        names::REGS => regs(w, c, line),
+        names::CURSOR => cursor(w, c),
+        names::TABLES => tables(w, c, line),
+        names::BYTE => byte(w, c, mem, dev),
+        names::WORD => word(w, c, mem, dev),
+        names::PROTECT => protect(w, c, dev, journal),
+        names::DEVICE => register(w, c, dev, journal),
+        names::SET => set(w, c, dev, journal),
+        names::FORGET => forget(w, dev, journal),
+        names::DECODE => speak(w, decode(c)),
+        names::ENCODE => speak(w, encode(c)),
+        names::LINE => speak(w, parse_line(c, line)),
+        _ => bad(w),
     }
-    if c == names::REGS {
-        return regs(s, line, at);
-    }
-    if c == names::CURSOR {
-        return cursor(s, line, at);
-    }
-    if c == names::PROTECT {
-        return protect(s, line, at, dev, journal);
-    }
-    if c == names::DEVICE {
-        return register(s, line, at, dev, journal);
-    }
-    if c == names::SET {
-        return set(s, line, at, dev, journal);
-    }
-    if c == names::FORGET {
-        return forget(s, line, at, dev, journal);
-    }
-    changed(s, Said::Bad)
 }
 
 // Commands that store.
-fn on_bytes(
-    c: u16,
-    s: State,
+fn storing(
+    w: State,
+    c: Command,
     line: &[u8],
-    at: usize,
     mem: &mut [u8],
     dev: &mut [u8],
     journal: &[u8],
 ) -> Outcome {
-    if c == names::PUT {
-        return changed(s, byte_put(s, line, at, mem, dev));
+    let name = c.name;
+    match name {
+        names::PUT => put(w, c, mem, dev),
+        names::PUTW => put_word(w, c, mem, dev),
+        names::LOAD => load(w, c, line, mem, dev, journal),
+        names::LOADN => load_same(w, c, mem, dev, journal),
+        names::BACK => back(w, mem, dev, journal),
+        _ => bad(w),
     }
-    if c == names::PUTW {
-        return changed(s, word_put(s, line, at, mem, dev));
-    }
-    if c == names::LOAD {
-        return load(s, line, at, mem, dev, journal);
-    }
-    if c == names::LOADN {
-        return load_same(s, line, at, mem, dev, journal);
-    }
-    back(s, line, at, mem, dev, journal)
 }
 
-// Commands that record what they store.
-fn recorded(
-    c: u16,
-    s: State,
+// Commands that write in all three buffers.
+fn recording(
+    w: State,
+    c: Command,
     line: &[u8],
-    at: usize,
     mem: &mut [u8],
     dev: &mut [u8],
     journal: &mut [u8],
 ) -> Outcome {
-    if c == names::STEP {
-        return step(s, line, at, mem, dev, journal);
+    let name = c.name;
+    match name {
+        names::NEW => seed(w, c, mem, dev, journal),
+        names::POKE => poke(w, c, line, mem, dev, journal),
+        names::STEP => step(w, mem, dev, journal),
+        names::RUN => run(w, c, mem, dev, journal),
+        _ => bad(w),
     }
-    run(s, line, at, mem, dev, journal)
 }
 
-fn acted(
-    c: u16,
-    s: State,
+// Does what a command does. One that prints does nothing else.
+fn act(
+    w: State,
+    c: Command,
     line: &[u8],
-    at: usize,
     mem: &mut [u8],
     dev: &mut [u8],
     journal: &mut [u8],
 ) -> Outcome {
-    if c < names::FIRST_STORING {
-        return on_state(c, s, line, at, dev, journal);
+    let lent = c.lent;
+    match lent {
+        names::LOOKS => looking(w, c, line, mem, dev, journal),
+        names::STORES => storing(w, c, line, mem, dev, journal),
+        names::RECORDS => recording(w, c, line, mem, dev, journal),
+        _ => bad(w),
     }
-    if c < names::FIRST_RECORDING {
-        return on_bytes(c, s, line, at, mem, dev, journal);
-    }
-    recorded(c, s, line, at, mem, dev, journal)
 }
 
-// Commands that look at no state.
-fn printed_word(c: u16, line: &[u8], at: usize, out: &mut [u8], p: usize) -> usize {
-    if c == names::DECODE {
-        return decode(line, at, out, p);
+// The name of a command that prints, and no name where the answer is short.
+fn printing(c: Command) -> u64 {
+    if c.lent == names::PRINTS {
+        return c.name;
     }
-    if c == names::PRINT {
-        return print(line, at, out, p);
-    }
-    if c == names::ASM {
-        return assemble(line, at, out, p);
-    }
-    if c == names::ASMN {
-        return assemble_copies(line, at, out, p);
-    }
-    if c == names::LINE {
-        return parse_line(line, at, out, p);
-    }
-    if c == names::LISTING {
-        return listing(line, at, out, p);
-    }
-    encode(line, at, out, p)
+    names::NO_NAME
 }
 
-// Commands that print and leave the state.
-fn printed(
-    c: u16,
-    s: State,
+// Prints what was said, or what a command with a long answer has to say.
+fn show(
+    said: Said,
+    w: State,
+    c: Command,
     line: &[u8],
-    at: usize,
     mem: &[u8],
     dev: &[u8],
     journal: &[u8],
-    out: &mut [u8],
+    out: &mut [u8; 65536],
     p: usize,
 ) -> usize {
-    if c == names::STATE {
-        return print_state(s, line, at, mem, dev, journal, out, p);
+    match printing(c) {
+        names::READ => read(w, c, mem, dev, journal, out, p),
+        names::STATE => print_state(w, mem, dev, journal, out, p),
+        names::PRINT => print(c, out, p),
+        names::ASM => assemble(c, line, out, p),
+        names::ASMN => assemble_copies(c, line, out, p),
+        names::LISTING => listing(c, line, out, p),
+        _ => output::said(out, p, said),
     }
-    if c == names::BYTE {
-        return say(out, p, byte_read(s, line, at, mem, dev));
-    }
-    if c == names::WORD {
-        return say(out, p, word_read(s, line, at, mem, dev));
-    }
-    if c == names::READ {
-        return read(s, line, at, mem, dev, journal, out, p);
-    }
-    printed_word(c, line, at, out, p)
 }
 
 fn perform(
-    c: u16,
-    s: State,
+    s: Script,
+    c: Command,
     line: &[u8],
-    at: usize,
     mem: &mut [u8],
     dev: &mut [u8],
     journal: &mut [u8],
-    out: &mut [u8],
+    out: &mut [u8; 65536],
     p: usize,
 ) -> Turn {
-    if c < names::FIRST_PRINTING {
-        return spoken(acted(c, s, line, at, mem, dev, journal), out, p);
+    let w = s.state;
+    let o = act(w, c, line, mem, dev, journal);
+    let after = o.state;
+    let said = o.said;
+    let p = show(said, after, c, line, mem, dev, journal, out, p);
+    let at = output::put(out, p, b'\n');
+    Turn {
+        script: with_state(s, after),
+        at,
     }
-    kept(s, printed(c, s, line, at, mem, dev, journal, out, p))
 }
 
-// Lends each buffer at the length that the last `new` asked for, which was never more than there is.
-fn lent(
-    c: u16,
-    s: State,
+fn least(a: usize, b: usize) -> usize
+    ensures { λ r. ⌜ r ≤ b ⌝ }
+{
+    if b < a { b } else { a }
+}
+
+// Each buffer is lent at the length that the last `new` asked for, which is never more than there is.
+fn sized(
+    s: Script,
+    c: Command,
     line: &[u8],
-    at: usize,
     mem: &mut [u8],
     dev: &mut [u8],
     journal: &mut [u8],
-    out: &mut [u8],
+    out: &mut [u8; 65536],
     p: usize,
 ) -> Turn {
-    let m = s.mem;
-    let d = s.dev;
-    let j = s.journal;
-    if mem.len() < m {
-        return kept(s, p);
-    }
-    if dev.len() < d {
-        return kept(s, p);
-    }
-    if journal.len() < j {
-        return kept(s, p);
-    }
+    let m = least(s.mem, mem.len());
+    let d = least(s.dev, dev.len());
+    let j = least(s.journal, journal.len());
     perform(
-        c,
         s,
+        c,
         line,
-        at,
         &mut mem[0..m],
         &mut dev[0..d],
         &mut journal[0..j],
@@ -227,23 +210,17 @@ fn lent(
     )
 }
 
-// The answer to a line, all but its end. `new` and `poke` are handed the whole buffers.
+// The answer to a line.
 pub fn answer(
-    s: State,
-    line: &[u8],
-    mem: &mut [u8],
-    dev: &mut [u8],
-    journal: &mut [u8],
-    out: &mut [u8],
+    s: Script,
+    line: &mut [u8],
+    mem: &mut [u8; 65792],
+    dev: &mut [u8; 65792],
+    journal: &mut [u8; 94300],
+    out: &mut [u8; 65536],
     p: usize,
 ) -> Turn {
-    let at = name_end(line);
-    let c = names::command(&line[0..at]);
-    if c == names::NEW {
-        return spoken(make(s, line, at, mem, dev, journal), out, p);
-    }
-    if c == names::POKE {
-        return kept(s, say(out, p, poke(s, line, at, mem, dev, journal)));
-    }
-    lent(c, s, line, at, mem, dev, journal, out, p)
+    let c = spelt_out(lines::read(line), line);
+    let t = found(s, c);
+    sized(t, c, line, mem, dev, journal, out, p)
 }

@@ -1,114 +1,70 @@
 // The long answers: a part of memory, and the whole state.
 use crate::adler::adler;
-use crate::answers::Said;
-use crate::answers::refused;
-use crate::answers::say;
+use crate::answers::counted;
+use crate::lines::Command;
+use crate::lines::room;
+use crate::lines::short;
 use crate::output;
-use crate::parse::number;
-use crate::parse::word;
-use crate::state::State;
+use crate::said::Said;
+use crate::said::hex_eight;
+use crate::said::put;
+use crate::said::word;
+use journal::State;
 use machine::Machine;
-use map::Map;
-use memory::ReadOut;
 
-fn counted(out: &mut [u8], at: usize, r: ReadOut) -> usize {
-    match r {
-        ReadOut::Count(n) => output::decimal(out, at, n as u64),
-        ReadOut::Refused(r) => refused(out, at, base::number(r)),
-    }
-}
-
-// Reads out into buf, and prints the verdict and the whole of buf.
-fn dump(
-    w: journal::State,
-    mem: &[u8],
-    dev: &[u8],
-    journal: &[u8],
-    start: u16,
-    size: usize,
-    buf: &mut [u8],
-    out: &mut [u8],
-    at: usize,
-) -> usize {
-    let p = counted(
-        out,
-        at,
-        host::read_out(w, mem, dev, journal, start, size, buf),
-    );
-    let q = output::put(out, p, b' ');
-    output::hex_bytes(out, q, buf)
+// A verdict, and then the first n bytes of a buffer.
+pub fn dump(t: Said, buf: &[u8; 65600], n: usize, out: &mut [u8; 65536], p: usize) -> usize {
+    let p = output::said(out, p, put(t, b' '));
+    output::hex_bytes(out, p, buf, n)
 }
 
 pub fn read(
-    s: State,
-    line: &[u8],
-    at: usize,
+    w: State,
+    c: Command,
     mem: &[u8],
     dev: &[u8],
     journal: &[u8],
-    out: &mut [u8],
+    out: &mut [u8; 65536],
     p: usize,
 ) -> usize {
-    let start = word(line, at);
-    let size = number(line, start.next, 4294967295);
-    let room = number(line, size.next, 65600);
-    if room.next != line.len() {
-        return say(out, p, Said::Bad);
-    }
-    let w = s.whole;
-    let n = room.value as usize;
+    let n = room(c.c);
     let mut buf = [0xEEu8; 65600];
-    dump(
+    let r = host::read_out(
         w,
         mem,
         dev,
         journal,
-        start.value,
-        size.value as usize,
+        short(c.a),
+        c.b as usize,
         &mut buf[0..n],
-        out,
-        p,
-    )
+    );
+    dump(counted(r), &buf, n, out, p)
 }
 
-fn registers(out: &mut [u8], at: usize, regs: [u16; 8]) -> usize {
-    let mut p = at;
+// Registers, debug mode, both tables with their counts, next and held: the numbers of the state, in the order of its line.
+fn numbers(w: State) -> [u16; 45] {
+    let machine = w.machine;
+    let registers = machine.registers;
+    let value = registers.value;
+    let map = machine.map;
+    let mut v = [0u16; 45];
     let mut i: usize = 0;
     while i < 8 {
-        p = output::parted(out, p, i, b',');
-        p = output::decimal(out, p, regs[i] as u64);
+        let r = map.region[i];
+        let d = map.device[i];
+        v[i] = value[i];
+        v[2 * i + 10] = r.start;
+        v[2 * i + 11] = r.len;
+        v[2 * i + 27] = d.start;
+        v[2 * i + 28] = d.end;
         i += 1;
     }
-    p
-}
-
-fn pair(out: &mut [u8], at: usize, i: usize, a: u16, b: u16) -> usize {
-    let p = output::parted(out, at, i, b';');
-    let p = output::decimal(out, p, a as u64);
-    let p = output::put(out, p, b',');
-    output::decimal(out, p, b as u64)
-}
-
-fn regions(out: &mut [u8], at: usize, m: Map) -> usize {
-    let mut p = at;
-    let mut i: usize = 0;
-    while i < 8 {
-        let r = m.region[i];
-        p = pair(out, p, i, r.start, r.len);
-        i += 1;
-    }
-    p
-}
-
-fn devices(out: &mut [u8], at: usize, m: Map) -> usize {
-    let mut p = at;
-    let mut i: usize = 0;
-    while i < 8 {
-        let d = m.device[i];
-        p = pair(out, p, i, d.start, d.end);
-        i += 1;
-    }
-    p
+    v[8] = debug_of(machine);
+    v[9] = map.regions;
+    v[26] = map.devices;
+    v[43] = w.next;
+    v[44] = w.held;
+    v
 }
 
 fn debug_of(m: Machine) -> u16 {
@@ -116,57 +72,21 @@ fn debug_of(m: Machine) -> u16 {
     if mode.debug { 1 } else { 0 }
 }
 
-// A number, and the space after it.
-fn spaced(out: &mut [u8], at: usize, n: u16) -> usize {
-    let p = output::decimal(out, at, n as u64);
-    output::put(out, p, b' ')
-}
-
-fn tables(out: &mut [u8], at: usize, m: Map) -> usize {
-    let p = spaced(out, at, m.regions);
-    let p = regions(out, p, m);
-    let p = output::put(out, p, b' ');
-    let p = spaced(out, p, m.devices);
-    let p = devices(out, p, m);
-    output::put(out, p, b' ')
-}
-
-// Registers, debug mode, tables.
-fn machine_text(out: &mut [u8], at: usize, m: Machine) -> usize {
-    let r = m.registers;
-    let v = r.value;
-    let t = m.map;
-    let p = registers(out, at, v);
-    let p = output::put(out, p, b' ');
-    let p = spaced(out, p, debug_of(m));
-    tables(out, p, t)
-}
-
-fn sums(out: &mut [u8], at: usize, mem: &[u8], dev: &[u8], journal: &[u8]) -> usize {
-    let p = output::hex_eight(out, at, adler(mem));
-    let p = output::put(out, p, b' ');
-    let p = output::hex_eight(out, p, adler(dev));
-    let p = output::put(out, p, b' ');
-    output::hex_eight(out, p, adler(journal))
+fn sums(mem: &[u8], dev: &[u8], journal: &[u8]) -> Said {
+    let t = hex_eight(word(b""), adler(mem));
+    let t = hex_eight(put(t, b' '), adler(dev));
+    hex_eight(put(t, b' '), adler(journal))
 }
 
 pub fn print_state(
-    s: State,
-    line: &[u8],
-    at: usize,
+    w: State,
     mem: &[u8],
     dev: &[u8],
     journal: &[u8],
-    out: &mut [u8],
+    out: &mut [u8; 65536],
     p: usize,
 ) -> usize {
-    if at != line.len() {
-        return say(out, p, Said::Bad);
-    }
-    let w = s.whole;
-    let m = w.machine;
-    let p = machine_text(out, p, m);
-    let p = spaced(out, p, w.next);
-    let p = spaced(out, p, w.held);
-    sums(out, p, mem, dev, journal)
+    let v = numbers(w);
+    let p = output::numbers(out, p, &v, b",,,,,,,   ,;,;,;,;,;,;,;,  ,;,;,;,;,;,;,;,   ");
+    output::said(out, p, sums(mem, dev, journal))
 }

@@ -1,17 +1,11 @@
 // Standard input, cut into lines.
-use crate::answers::Said;
-use crate::answers::Turn;
-use crate::answers::kept;
-use crate::answers::say;
+use crate::commands::Turn;
 use crate::commands::answer;
 use crate::output::flush;
-use crate::output::put;
-use crate::state::State;
+use crate::state::Script;
 use crate::state::zero;
 use libc::STDIN_FILENO;
-ghost use mathlib.Core.Path.{_≡_};
-ghost use Prim.Native.Nat.{_≤_, _<_};
-ghost use lib.ListN.{length};
+ghost use Prim.Native.Nat.{_≤_};
 
 // How far input and output are.
 struct Flow {
@@ -27,9 +21,9 @@ struct Flow {
     is_over: bool,
 }
 
-// The script so far.
+// The script so far, and how far its text is.
 struct Session {
-    state: State,
+    script: Script,
     flow: Flow,
 }
 
@@ -87,7 +81,7 @@ fn took(f: Flow, chunk: &[u8], line: &mut [u8]) -> Flow {
 
 // Reads once more. What waits is written out before, so that whoever sends line by line has each answer before the
 // next read. Where the input has ended, what is left is a line, though no line end follows it.
-fn refill(f: Flow, chunk: &mut [u8], out: &[u8]) -> Flow {
+fn refill(f: Flow, chunk: &mut [u8; 65536], out: &[u8; 65536]) -> Flow {
     flush(out, f.at);
     let got = libc::read(STDIN_FILENO, chunk);
     let n = io::count(got, chunk);
@@ -101,7 +95,7 @@ fn refill(f: Flow, chunk: &mut [u8], out: &[u8]) -> Flow {
     }
 }
 
-fn gather(f: Flow, chunk: &mut [u8], line: &mut [u8], out: &[u8]) -> Flow {
+fn gather(f: Flow, chunk: &mut [u8; 65536], line: &mut [u8; 524288], out: &[u8; 65536]) -> Flow {
     if f.from < f.count {
         return took(f, chunk, line);
     }
@@ -109,7 +103,7 @@ fn gather(f: Flow, chunk: &mut [u8], line: &mut [u8], out: &[u8]) -> Flow {
 }
 
 // The flow after its turn: where a line was answered, the next one begins; after the last, what waits is written out.
-fn passed(f: Flow, at: usize, out: &[u8]) -> Flow {
+fn passed(f: Flow, at: usize, out: &[u8; 65536]) -> Flow {
     let mut t = f;
     t.at = at;
     if f.is_whole {
@@ -121,63 +115,68 @@ fn passed(f: Flow, at: usize, out: &[u8]) -> Flow {
     t
 }
 
-fn ended(t: Turn, out: &mut [u8]) -> Turn {
-    let state = t.state;
-    let at = put(out, t.at, b'\n');
-    kept(state, at)
+// Answers the first `have` bytes of the line. One that did not fit is no command, as an empty one is none.
+fn answer_first(
+    s: Script,
+    f: Flow,
+    mem: &mut [u8; 65792],
+    dev: &mut [u8; 65792],
+    journal: &mut [u8; 94300],
+    line: &mut [u8],
+    out: &mut [u8; 65536],
+) -> Turn {
+    let n = fitting(f.have, line.len());
+    answer(s, &mut line[0..n], mem, dev, journal, out, f.at)
 }
 
-// Answers the line, if it has come whole. One that did not fit is no command.
+fn fitting(have: usize, room: usize) -> usize
+    ensures { λ r. ⌜ r ≤ room ⌝ }
+{
+    if room < have { 0 } else { have }
+}
+
+// Answers the line, if it has come whole.
 fn turn(
-    s: State,
-    is_whole: bool,
-    have: usize,
-    at: usize,
-    mem: &mut [u8],
-    dev: &mut [u8],
-    journal: &mut [u8],
-    line: &[u8],
-    out: &mut [u8],
+    s: Script,
+    f: Flow,
+    mem: &mut [u8; 65792],
+    dev: &mut [u8; 65792],
+    journal: &mut [u8; 94300],
+    line: &mut [u8; 524288],
+    out: &mut [u8; 65536],
 ) -> Turn {
-    if !is_whole {
-        return kept(s, at);
+    if !f.is_whole {
+        return Turn {
+            script: s,
+            at: f.at,
+        };
     }
-    if line.len() < have {
-        return ended(kept(s, say(out, at, Said::Bad)), out);
-    }
-    ended(answer(s, &line[0..have], mem, dev, journal, out, at), out)
+    answer_first(s, f, mem, dev, journal, line, out)
 }
 
 // Takes or reads what comes next, and answers it where that makes a line.
 fn round(
     s: Session,
-    mem: &mut [u8],
-    dev: &mut [u8],
-    journal: &mut [u8],
-    chunk: &mut [u8],
-    line: &mut [u8],
-    out: &mut [u8],
+    mem: &mut [u8; 65792],
+    dev: &mut [u8; 65792],
+    journal: &mut [u8; 94300],
+    chunk: &mut [u8; 65536],
+    line: &mut [u8; 524288],
+    out: &mut [u8; 65536],
 ) -> Session {
     let f = gather(s.flow, chunk, line, out);
-    let state = s.state;
-    let t = turn(
-        state,
-        f.is_whole,
-        f.have,
-        f.at,
-        mem,
-        dev,
-        journal,
-        line,
-        out,
-    );
-    let after = t.state;
+    let script = s.script;
+    let t = turn(script, f, mem, dev, journal, line, out);
+    let after = t.script;
     let flow = passed(f, t.at, out);
-    Session { state: after, flow }
+    Session {
+        script: after,
+        flow,
+    }
 }
 
 fn start() -> Session {
-    let state = zero(0, 0, 0, false);
+    let script = zero(0, 0, 0, false);
     let flow = Flow {
         count: 0,
         from: 0,
@@ -186,7 +185,7 @@ fn start() -> Session {
         is_whole: false,
         is_over: false,
     };
-    Session { state, flow }
+    Session { script, flow }
 }
 
 fn is_over(s: Session) -> bool {
@@ -197,12 +196,12 @@ fn is_over(s: Session) -> bool {
 // A proved loop has to end, and nothing says that the input does. So the loop counts its turns down, from a number
 // that no run uses up; it stops where the input does.
 pub fn run(
-    mem: &mut [u8],
-    dev: &mut [u8],
-    journal: &mut [u8],
-    chunk: &mut [u8],
-    line: &mut [u8],
-    out: &mut [u8],
+    mem: &mut [u8; 65792],
+    dev: &mut [u8; 65792],
+    journal: &mut [u8; 94300],
+    chunk: &mut [u8; 65536],
+    line: &mut [u8; 524288],
+    out: &mut [u8; 65536],
 ) {
     let mut s = start();
     let mut turns = u64::MAX;

@@ -1,52 +1,25 @@
 // The listing of a text.
-use crate::answers::Said;
 use crate::answers::refused;
-use crate::answers::say;
+use crate::lines::Command;
 use crate::output;
-use crate::texts::hex_text;
-use crate::texts::unhex;
+use crate::texts::bytes_of;
 use printer::Printed;
 
-// The first n bytes in hex.
-fn first(n: usize, list: &[u8], out: &mut [u8], p: usize) -> usize {
-    if n <= list.len() {
-        return output::hex_bytes(out, p, &list[0..n]);
-    }
-    p
-}
-
-fn shown(r: Printed, list: &[u8], out: &mut [u8], p: usize) -> usize {
+fn shown(r: Printed, list: &[u8; 262144], out: &mut [u8; 65536], p: usize) -> usize {
     match r {
-        Printed::Next(n) => first(n, list, out, p),
-        Printed::Refused(r) => refused(out, p, base::number(r)),
+        Printed::Next(n) => output::hex_bytes(out, p, list, n),
+        Printed::Refused(r) => output::said(out, p, refused(r)),
     }
 }
 
 // The longest listing has 245,779 bytes: no line is longer beside its own in the text than that of `DBG`, fifteen bytes for four, and
-// the text has 65,536 at most.
-fn listed(text: &[u8], out: &mut [u8], p: usize) -> usize {
+// the text has 65,536 at most. It is lent as an array: the longer an array is, the longer it takes to prove how long.
+fn list_into(text: &[u8], list: &mut [u8; 262144]) -> Printed {
+    lister::list(text, list)
+}
+
+pub fn listing(c: Command, line: &[u8], out: &mut [u8; 65536], p: usize) -> usize {
     let mut list = [0u8; 262144];
-    let r = lister::list(text, &mut list);
+    let r = list_into(bytes_of(line, c.text), &mut list);
     shown(r, &list, out, p)
-}
-
-// Lists the text that the digits spell, which is put into `text`.
-fn listed_digits(digits: &[u8], text: &mut [u8], out: &mut [u8], p: usize) -> usize {
-    unhex(digits, text);
-    listed(text, out, p)
-}
-
-pub fn listing(line: &[u8], at: usize, out: &mut [u8], p: usize) -> usize {
-    let t = hex_text(line, at);
-    if t.next != line.len() {
-        return say(out, p, Said::Bad);
-    }
-    let a = t.start;
-    let e = t.end;
-    let n = (e - a) / 2;
-    if 65600 < n {
-        return say(out, p, Said::Bad);
-    }
-    let mut text = [0u8; 65600];
-    listed_digits(&line[a..e], &mut text[0..n], out, p)
 }

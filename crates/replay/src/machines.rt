@@ -1,74 +1,57 @@
-// The machine: its registers, raw from the line or one by the rules, and its step.
+// The machine and its journal: raw from the line, or by the rules.
 use crate::answers::Outcome;
-use crate::answers::Said;
 use crate::answers::after;
-use crate::answers::changed;
-use crate::parse::number;
-use crate::parse::word;
+use crate::answers::bad;
+use crate::answers::done;
+use crate::answers::ran;
+use crate::answers::speak;
+use crate::answers::stepped;
+use crate::lines::Command;
+use crate::lines::short;
 use crate::parse::words;
-use crate::state::State;
+use crate::state::with_cursor;
 use crate::state::with_registers;
-use crate::state::with_whole;
+use journal::State;
 use machine::Registers;
 
-pub fn regs(s: State, line: &[u8], at: usize) -> Outcome {
+pub fn regs(w: State, c: Command, line: &[u8]) -> Outcome {
     let mut v = [0u16; 8];
-    let w = words(line, at, &mut v);
-    if w.count != 8 {
-        return changed(s, Said::Bad);
+    let list = words(line, c.next, &mut v);
+    if list.count != 8 {
+        return bad(w);
     }
-    if w.next != line.len() {
-        return changed(s, Said::Bad);
+    if list.next != line.len() {
+        return bad(w);
     }
-    changed(with_registers(s, Registers { value: v }), Said::Done)
+    done(with_registers(w, Registers { value: v }))
 }
 
-pub fn set(s: State, line: &[u8], at: usize, dev: &[u8], journal: &[u8]) -> Outcome {
-    let number = word(line, at);
-    let value = word(line, number.next);
-    if value.next != line.len() {
-        return changed(s, Said::Bad);
-    }
-    let w = s.whole;
-    after(
-        s,
-        host::set_register(w, dev, journal, number.value as usize, value.value),
-    )
+pub fn cursor(w: State, c: Command) -> Outcome {
+    done(with_cursor(w, short(c.a), short(c.b)))
 }
 
-pub fn step(
-    s: State,
-    line: &[u8],
-    at: usize,
-    mem: &mut [u8],
-    dev: &mut [u8],
-    journal: &mut [u8],
-) -> Outcome {
-    if at != line.len() {
-        return changed(s, Said::Bad);
-    }
-    let w = s.whole;
+pub fn set(w: State, c: Command, dev: &[u8], journal: &[u8]) -> Outcome {
+    after(host::set_register(w, dev, journal, c.a as usize, short(c.b)))
+}
+
+pub fn forget(w: State, dev: &[u8], journal: &[u8]) -> Outcome {
+    after(journal::forget(w, dev, journal))
+}
+
+pub fn back(w: State, mem: &mut [u8], dev: &mut [u8], journal: &[u8]) -> Outcome {
+    after(journal::step_back(w, mem, dev, journal))
+}
+
+pub fn step(w: State, mem: &mut [u8], dev: &mut [u8], journal: &mut [u8]) -> Outcome {
     let q = journal::step(w, mem, dev, journal);
-    let went = q.state;
+    let state = q.state;
     let answer = q.answer;
-    changed(with_whole(s, went), Said::Stepped(answer))
+    speak(state, stepped(answer))
 }
 
-pub fn run(
-    s: State,
-    line: &[u8],
-    at: usize,
-    mem: &mut [u8],
-    dev: &mut [u8],
-    journal: &mut [u8],
-) -> Outcome {
-    let n = number(line, at, 4294967295);
-    if n.next != line.len() {
-        return changed(s, Said::Bad);
-    }
-    let w = s.whole;
-    let q = journal::run(w, mem, dev, journal, n.value);
-    let went = q.state;
+pub fn run(w: State, c: Command, mem: &mut [u8], dev: &mut [u8], journal: &mut [u8]) -> Outcome {
+    let q = journal::run(w, mem, dev, journal, c.a);
+    let state = q.state;
     let answer = q.answer;
-    changed(with_whole(s, went), Said::Ran(answer, q.count))
+    speak(state, ran(answer, q.count))
 }

@@ -1,164 +1,222 @@
-// The commands by number, so that a line's name is read once and nobody who is lent a buffer is lent the name too. The
-// numbers go by what a command is lent: all buffers whole, none that it changes, those that it stores in, the journal to write
-// in, and from FIRST_PRINTING on the output.
-use crate::parse::same;
+// The commands: what each is called, what it is lent, and what fields it has.
+//
+// A name is one number, whose bytes are the name's letters in ASCII: n, e and w are 6e, 65 and 77. So it is read once, and
+// looked up by one `match`.
+pub const NO_NAME: u64 = 18446744073709551615;
 
-pub const NO_COMMAND: u16 = 0;
+pub const NEW: u64 = 0x6e6577;
 
-pub const NEW: u16 = 1;
+pub const POKE: u64 = 0x706f6b65;
 
-pub const POKE: u16 = 2;
+pub const REGS: u64 = 0x72656773;
 
-pub const TABLES: u16 = 3;
+pub const CURSOR: u64 = 0x637572736f72;
 
-pub const REGS: u16 = 4;
+pub const TABLES: u64 = 0x7461626c6573;
 
-pub const CURSOR: u16 = 5;
+pub const BYTE: u64 = 0x62797465;
 
-pub const PROTECT: u16 = 6;
+pub const WORD: u64 = 0x776f7264;
 
-pub const DEVICE: u16 = 7;
+pub const PUT: u64 = 0x707574;
 
-pub const SET: u16 = 8;
+pub const PUTW: u64 = 0x70757477;
 
-pub const FORGET: u16 = 9;
+pub const PROTECT: u64 = 0x70726f74656374;
 
-pub const FIRST_STORING: u16 = 10;
+pub const DEVICE: u64 = 0x646576696365;
 
-pub const PUT: u16 = 10;
+pub const LOAD: u64 = 0x6c6f6164;
 
-pub const PUTW: u16 = 11;
+pub const LOADN: u64 = 0x6c6f61646e;
 
-pub const LOAD: u16 = 12;
+pub const READ: u64 = 0x72656164;
 
-pub const LOADN: u16 = 13;
+pub const SET: u64 = 0x736574;
 
-pub const BACK: u16 = 14;
+pub const STEP: u64 = 0x73746570;
 
-pub const FIRST_RECORDING: u16 = 15;
+pub const RUN: u64 = 0x72756e;
 
-pub const STEP: u16 = 15;
+pub const BACK: u64 = 0x6261636b;
 
-pub const RUN: u16 = 16;
+pub const FORGET: u64 = 0x666f72676574;
 
-pub const FIRST_PRINTING: u16 = 17;
+pub const DECODE: u64 = 0x6465636f6465;
 
-pub const BYTE: u16 = 17;
+pub const PRINT: u64 = 0x7072696e74;
 
-pub const WORD: u16 = 18;
+pub const ENCODE: u64 = 0x656e636f6465;
 
-pub const READ: u16 = 19;
+pub const ASM: u64 = 0x61736d;
 
-pub const STATE: u16 = 20;
+pub const ASMN: u64 = 0x61736d6e;
 
-pub const DECODE: u16 = 21;
+pub const LINE: u64 = 0x6c696e65;
 
-pub const PRINT: u16 = 22;
+pub const LISTING: u64 = 0x6c697374696e67;
 
-pub const ENCODE: u16 = 23;
+pub const STATE: u64 = 0x7374617465;
 
-pub const ASM: u16 = 24;
+// The words to choose by: a buffer (`device` is a command, too), or the rules of assembling.
+pub const MEMORY: u64 = 0x6d656d6f7279;
 
-pub const LINE: u16 = 25;
+pub const JOURNAL: u64 = 0x6a6f75726e616c;
 
-pub const LISTING: u16 = 26;
+pub const PLAIN: u64 = 0x706c61696e;
 
-pub const ASMN: u16 = 27;
+pub const STRICT: u64 = 0x737472696374;
 
-// The command of this name.
-pub fn command(name: &[u8]) -> u16 {
-    if same(name, b"new") {
-        return NEW;
-    }
-    if same(name, b"poke") {
-        return POKE;
-    }
-    if same(name, b"tables") {
-        return TABLES;
-    }
-    if same(name, b"regs") {
-        return REGS;
-    }
-    if same(name, b"state") {
-        return STATE;
-    }
-    if same(name, b"step") {
-        return STEP;
-    }
-    if same(name, b"set") {
-        return SET;
-    }
-    of_journal(name)
+// What is chosen by a line's first field.
+pub const NO_CHOICE: u8 = 0;
+
+pub const BUFFER: u8 = 1;
+
+pub const RULES: u8 = 2;
+
+// What a command is lent. BAD is a line that is none.
+pub const BAD: u8 = 0;
+
+// All three buffers to read.
+pub const LOOKS: u8 = 1;
+
+// Memory and device bytes to store in.
+pub const STORES: u8 = 2;
+
+// All three to write in.
+pub const RECORDS: u8 = 3;
+
+// All three to read, and the output: its answer is long.
+pub const PRINTS: u8 = 4;
+
+// How long a text may be, and how long a line.
+const TEXT_ROOM: usize = 65600;
+
+const LINE_ROOM: usize = 524288;
+
+// The fields of a line, in their order: a word to choose by, up to five numbers, up to two texts, a list. The command reads
+// its list itself.
+pub struct Shape {
+    pub lent: u8,
+    pub choice: u8,
+    // The most that each number may be; 0 where there is none.
+    pub a: u32,
+    pub b: u32,
+    pub c: u32,
+    pub d: u32,
+    pub e: u32,
+    pub texts: u8,
+    // The most bytes that each text may have.
+    pub long: usize,
+    pub has_list: bool,
 }
 
-fn of_journal(name: &[u8]) -> u16 {
-    if same(name, b"run") {
-        return RUN;
+fn five(lent: u8, a: u32, b: u32, c: u32, d: u32, e: u32) -> Shape {
+    Shape {
+        lent,
+        choice: NO_CHOICE,
+        a,
+        b,
+        c,
+        d,
+        e,
+        texts: 0,
+        long: LINE_ROOM,
+        has_list: false,
     }
-    if same(name, b"back") {
-        return BACK;
-    }
-    if same(name, b"forget") {
-        return FORGET;
-    }
-    if same(name, b"cursor") {
-        return CURSOR;
-    }
-    of_words(name)
 }
 
-fn of_words(name: &[u8]) -> u16 {
-    if same(name, b"decode") {
-        return DECODE;
-    }
-    if same(name, b"print") {
-        return PRINT;
-    }
-    if same(name, b"encode") {
-        return ENCODE;
-    }
-    if same(name, b"asm") {
-        return ASM;
-    }
-    if same(name, b"line") {
-        return LINE;
-    }
-    if same(name, b"listing") {
-        return LISTING;
-    }
-    if same(name, b"asmn") {
-        return ASMN;
-    }
-    of_memory(name)
+fn numbers(lent: u8, a: u32, b: u32, c: u32) -> Shape {
+    five(lent, a, b, c, 0, 0)
 }
 
-fn of_memory(name: &[u8]) -> u16 {
-    if same(name, b"byte") {
-        return BYTE;
+fn nothing(lent: u8) -> Shape {
+    five(lent, 0, 0, 0, 0, 0)
+}
+
+// A word to choose by, numbers, and so many texts, which may be as long as a line.
+fn chosen(lent: u8, choice: u8, a: u32, b: u32, c: u32, texts: u8) -> Shape {
+    let mut s = numbers(lent, a, b, c);
+    s.choice = choice;
+    s.texts = texts;
+    s
+}
+
+// Rules, two numbers, and a text.
+fn assembled(lent: u8, a: u32, b: u32) -> Shape {
+    let mut s = chosen(lent, RULES, a, b, 0, 1);
+    s.long = TEXT_ROOM;
+    s
+}
+
+fn text(lent: u8) -> Shape {
+    let mut s = nothing(lent);
+    s.texts = 1;
+    s.long = TEXT_ROOM;
+    s
+}
+
+// So many texts, and a list.
+fn list(lent: u8, texts: u8) -> Shape {
+    let mut s = nothing(lent);
+    s.texts = texts;
+    s.long = TEXT_ROOM;
+    s.has_list = true;
+    s
+}
+
+// What the command of this name is lent, and its fields. `encode` has five numbers that go by rules of their own (rows.rt).
+pub fn shape_of(name: u64) -> Shape {
+    match name {
+        NEW => five(RECORDS, 65792, 65792, 94300, 1, 65535),
+        POKE => chosen(RECORDS, BUFFER, 94300, 0, 0, 1),
+        REGS => list(LOOKS, 0),
+        CURSOR => numbers(LOOKS, 65535, 65535, 0),
+        TABLES => list(LOOKS, 0),
+        BYTE => numbers(LOOKS, 65535, 0, 0),
+        WORD => numbers(LOOKS, 65535, 0, 0),
+        PUT => numbers(STORES, 65535, 255, 0),
+        PUTW => numbers(STORES, 65535, 65535, 0),
+        PROTECT => numbers(LOOKS, 65535, 65535, 0),
+        DEVICE => numbers(LOOKS, 65535, 65535, 0),
+        LOAD => list(STORES, 0),
+        LOADN => numbers(STORES, 32800, 65535, 0),
+        READ => numbers(PRINTS, 65535, 4294967295, 65600),
+        SET => numbers(LOOKS, 65535, 65535, 0),
+        STEP => nothing(RECORDS),
+        RUN => numbers(RECORDS, 4294967295, 0, 0),
+        BACK => nothing(STORES),
+        FORGET => nothing(LOOKS),
+        DECODE => numbers(LOOKS, 65535, 0, 0),
+        PRINT => numbers(PRINTS, 65535, 65600, 0),
+        ENCODE => nothing(LOOKS),
+        ASM => assembled(PRINTS, 32800, 1100),
+        ASMN => chosen(PRINTS, RULES, 32800, 1100, 32800, 2),
+        LINE => list(LOOKS, 2),
+        LISTING => text(PRINTS),
+        STATE => nothing(PRINTS),
+        _ => nothing(BAD),
     }
-    if same(name, b"word") {
-        return WORD;
+}
+
+fn is_buffer(name: u64) -> bool {
+    match name {
+        MEMORY | DEVICE | JOURNAL => true,
+        _ => false,
     }
-    if same(name, b"put") {
-        return PUT;
+}
+
+fn are_rules(name: u64) -> bool {
+    match name {
+        PLAIN | STRICT => true,
+        _ => false,
     }
-    if same(name, b"putw") {
-        return PUTW;
+}
+
+// Whether a field that chooses so may have this name in it.
+pub fn is_choice(choice: u8, name: u64) -> bool {
+    if choice == BUFFER {
+        return is_buffer(name);
     }
-    if same(name, b"protect") {
-        return PROTECT;
-    }
-    if same(name, b"device") {
-        return DEVICE;
-    }
-    if same(name, b"read") {
-        return READ;
-    }
-    if same(name, b"load") {
-        return LOAD;
-    }
-    if same(name, b"loadn") {
-        return LOADN;
-    }
-    NO_COMMAND
+    are_rules(name)
 }

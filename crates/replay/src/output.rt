@@ -1,54 +1,62 @@
 // What is written waits in one buffer, so that an answer costs no call of its own: it goes out when the buffer is
 // full and before more input is waited for. Every writer here is handed the place of the next byte and answers the
-// place after its own.
+// place after its own. The buffer is lent as an array and not as a slice: then nobody has to show that it keeps its length.
+use crate::parse::byte_at;
+use crate::said;
+use crate::said::Said;
 use libc::STDOUT_FILENO;
 
-pub fn put(out: &mut [u8], at: usize, b: u8) -> usize {
-    if at < out.len() {
+pub fn put(out: &mut [u8; 65536], at: usize, b: u8) -> usize {
+    if at < 65536 {
         out[at] = b;
         return at + 1;
     }
     io::write_all(STDOUT_FILENO, out);
-    if 0 < out.len() {
-        out[0] = b;
-        return 1;
-    }
-    0
+    out[0] = b;
+    1
 }
 
 // Writes out what waits.
-pub fn flush(out: &[u8], at: usize) {
-    if at <= out.len() {
-        io::write_all(STDOUT_FILENO, &out[0..at]);
+pub fn flush(out: &[u8; 65536], at: usize) {
+    write_first(out, at);
+}
+
+fn write_first(out: &[u8], n: usize) {
+    if n <= out.len() {
+        io::write_all(STDOUT_FILENO, &out[0..n]);
     }
 }
 
-pub fn text(out: &mut [u8], at: usize, t: &[u8]) -> usize {
+// The first n bytes of a text.
+fn first(out: &mut [u8; 65536], at: usize, t: &[u8], n: usize) -> usize {
     let mut p = at;
     let mut i: usize = 0;
-    while i < t.len() {
-        p = put(out, p, t[i]);
+    while i < n {
+        p = put(out, p, byte_at(t, i));
         i += 1;
     }
     p
 }
 
-// A separator in front of every item but the first.
-pub fn parted(out: &mut [u8], at: usize, i: usize, b: u8) -> usize {
-    if i == 0 { at } else { put(out, at, b) }
+// A short answer.
+pub fn said(out: &mut [u8; 65536], at: usize, t: Said) -> usize {
+    let bytes = t.bytes;
+    first(out, at, &bytes, t.len)
 }
 
-pub fn decimal(out: &mut [u8], at: usize, n: u64) -> usize {
-    let mut digits = [0u8; 20];
-    let k = io::decimal(n, &mut digits);
-    text(out, at, &digits[0..k])
+fn followed(n: u16, b: u8) -> Said {
+    said::put(said::decimal(said::word(b""), n as u64), b)
 }
 
-// Eight hex digits.
-pub fn hex_eight(out: &mut [u8], at: usize, n: u32) -> usize {
-    let mut digits = [0u8; 16];
-    let k = io::hex(n as u64, 8, &mut digits);
-    text(out, at, &digits[0..k])
+// Numbers, each with the byte after it that stands at its place in `after`.
+pub fn numbers(out: &mut [u8; 65536], at: usize, v: &[u16], after: &[u8]) -> usize {
+    let mut p = at;
+    let mut i: usize = 0;
+    while i < v.len() {
+        p = said(out, p, followed(v[i], byte_at(after, i)));
+        i += 1;
+    }
+    p
 }
 
 fn hex_digit(n: u8) -> u8 {
@@ -56,28 +64,15 @@ fn hex_digit(n: u8) -> u8 {
     if d < 10 { b'0' + d } else { 87 + d }
 }
 
-fn upper_digit(n: u16) -> u8 {
-    let d = (n % 16) as u8;
-    if d < 10 { b'0' + d } else { 55 + d }
-}
-
-// Four upper-case hex digits.
-pub fn hex_word(out: &mut [u8], at: usize, w: u16) -> usize {
-    let p = put(out, at, upper_digit(w / 4096));
-    let p = put(out, p, upper_digit(w / 256));
-    let p = put(out, p, upper_digit(w / 16));
-    put(out, p, upper_digit(w))
-}
-
-// All bytes in pairs of hex digits; `-` where there are none.
-pub fn hex_bytes(out: &mut [u8], at: usize, bytes: &[u8]) -> usize {
-    if bytes.len() == 0 {
+// The first n bytes in pairs of hex digits; `-` where there are none.
+pub fn hex_bytes(out: &mut [u8; 65536], at: usize, bytes: &[u8], n: usize) -> usize {
+    if n == 0 {
         return put(out, at, b'-');
     }
     let mut p = at;
     let mut i: usize = 0;
-    while i < bytes.len() {
-        let b = bytes[i];
+    while i < n {
+        let b = byte_at(bytes, i);
         p = put(out, p, hex_digit(b / 16));
         p = put(out, p, hex_digit(b));
         i += 1;

@@ -1,8 +1,9 @@
 // The fields of a line: a name, then fields that each follow one space.
 //
 // A reader of a field is handed the place where the field before it ended, and says where this one ends. Where a
-// field is bad it ends nowhere, and nothing can be read from nowhere, so a command reads all its fields in a row and
-// asks once, at the end, whether the last of them ended where the line does.
+// field is bad it ends nowhere, and nothing can be read from nowhere, so all fields of a line are read in a row and it is
+// asked once, at the end, whether the last of them ended where the line does.
+use crate::names::NO_NAME;
 ghost use Prim.Native.Nat.{_≤_};
 ghost use lib.ListN.{length};
 
@@ -35,33 +36,36 @@ pub fn byte_at(line: &[u8], at: usize) -> u8 {
     byte_or(line, at, b' ')
 }
 
-// Where the line's first field ends.
-pub fn name_end(line: &[u8]) -> usize
-    ensures { λ r. ⌜ r ≤ length (now (line .entry)) ⌝ }
-{
-    let mut i: usize = 0;
-    while i < line.len() {
-        if line[i] == b' ' {
-            return i;
-        }
-        i += 1;
-    }
-    i
+// A name as a number whose bytes are its letters, and where it ends.
+pub struct NameField {
+    pub key: u64,
+    pub next: usize,
 }
 
-// Whether two texts are the same.
-pub fn same(a: &[u8], b: &[u8]) -> bool {
-    if a.len() != b.len() {
-        return false;
+// One letter more. A name of more than eight bytes, or with a zero among them, is none.
+fn joined(key: u64, b: u8) -> u64 {
+    if b == 0 {
+        return NO_NAME;
     }
-    let mut i: usize = 0;
-    while i < a.len() {
-        if a[i] != byte_at(b, i) {
-            return false;
+    if 72057594037927935 < key {
+        return NO_NAME;
+    }
+    key * 256 + b as u64
+}
+
+// The name that begins at `from`, up to a space or the line's end.
+pub fn name(line: &[u8], from: usize) -> NameField {
+    let mut i = from;
+    let mut key: u64 = 0;
+    while i < line.len() {
+        let b = line[i];
+        if b == b' ' {
+            break;
         }
+        key = joined(key, b);
         i += 1;
     }
-    true
+    NameField { key, next: i }
 }
 
 // Where the field that follows `at` begins: past one space, where no second one stands.
@@ -206,18 +210,4 @@ pub fn entry(line: &[u8], at: usize) -> EntryField {
         address: address.value as u16,
         next: address.next,
     }
-}
-
-// Where the field that follows `at` ends, if it is this very name.
-pub fn named(line: &[u8], at: usize, name: &[u8]) -> usize {
-    let start = opened(line, at);
-    if line.len() <= start {
-        return NOWHERE;
-    }
-    let rest = &line[start..];
-    let n = name_end(rest);
-    if same(&rest[0..n], name) {
-        return start + n;
-    }
-    NOWHERE
 }

@@ -1,22 +1,15 @@
 // An instruction from four numbers, in the order of its row in document 01's table: an operand is a bit (1 for a
 // register) and its value, and a field that a row does not have is 0. A number may exceed the field's width in the word.
+use crate::lines::Command;
+use crate::lines::Numbers;
+use crate::lines::short;
 use crate::parse::number;
-use instruction::ArithOp;
-use instruction::ArithmeticOp;
-use instruction::CompareOp;
 use instruction::Instruction;
 use instruction::Operand;
 use instruction::Register;
-
-// A line's numbers, and where the last of them ended.
-pub struct Row {
-    pub op: u32,
-    pub a: u32,
-    pub b: u32,
-    pub c: u32,
-    pub d: u32,
-    pub next: usize,
-}
+use instruction::arith_of;
+use instruction::arithmetic_of;
+use instruction::compare_of;
 
 // The most that an operand's value may be, after its bit.
 fn operand_most(bit: u32) -> u32 {
@@ -65,41 +58,29 @@ fn fourth_most(op: u32, third: u32) -> u32 {
 }
 
 // How far each field may go depends on the opcode and, of an operand's value, on the bit before it.
-pub fn read(line: &[u8], at: usize) -> Row {
+pub fn read(line: &[u8], at: usize) -> Numbers {
     let op = number(line, at, 11);
     let a = number(line, op.next, first_most(op.value));
     let b = number(line, a.next, second_most(op.value, a.value));
     let c = number(line, b.next, third_most(op.value, b.value));
     let d = number(line, c.next, fourth_most(op.value, c.value));
-    Row {
-        op: op.value,
-        a: a.value,
-        b: b.value,
-        c: c.value,
-        d: d.value,
+    Numbers {
+        a: op.value,
+        b: a.value,
+        c: b.value,
+        d: c.value,
+        e: d.value,
         next: d.next,
     }
-}
-
-fn short(n: u32) -> u16 {
-    (n % 65536) as u16
 }
 
 fn tiny(n: u32) -> u8 {
     (n % 256) as u8
 }
 
+// A number up to 7 is the three lowest bits of its word.
 fn register(n: u32) -> Register {
-    match n {
-        0 => Register::A,
-        1 => Register::B,
-        2 => Register::C,
-        3 => Register::M,
-        4 => Register::SP,
-        5 => Register::PC,
-        6 => Register::BP,
-        _ => Register::FLAGS,
-    }
+    instruction::register_at(short(n), 0)
 }
 
 fn operand(bit: u32, n: u32) -> Operand {
@@ -107,38 +88,6 @@ fn operand(bit: u32, n: u32) -> Operand {
         return Operand::Reg(register(n));
     }
     Operand::Imm(short(n))
-}
-
-fn four(n: u32) -> ArithOp {
-    match n {
-        0 => ArithOp::Add,
-        1 => ArithOp::Sub,
-        2 => ArithOp::Mul,
-        _ => ArithOp::Div,
-    }
-}
-
-fn seven(n: u32) -> ArithmeticOp {
-    match n {
-        0 => ArithmeticOp::Add,
-        1 => ArithmeticOp::Sub,
-        2 => ArithmeticOp::Mul,
-        3 => ArithmeticOp::Div,
-        4 => ArithmeticOp::Mod,
-        5 => ArithmeticOp::Exp,
-        _ => ArithmeticOp::Sqrt,
-    }
-}
-
-fn compare(n: u32) -> CompareOp {
-    match n {
-        0 => CompareOp::Eq,
-        1 => CompareOp::NotEq,
-        2 => CompareOp::Less,
-        3 => CompareOp::LessEq,
-        4 => CompareOp::Greater,
-        _ => CompareOp::GreaterEq,
-    }
 }
 
 fn mov(a: u32, b: u32, c: u32) -> Instruction {
@@ -150,7 +99,7 @@ fn mov_shift(a: u32, b: u32, c: u32, d: u32) -> Instruction {
 }
 
 fn arith(a: u32, b: u32, c: u32, d: u32) -> Instruction {
-    Instruction::Arith(register(a), operand(c, d), four(b))
+    Instruction::Arith(register(a), operand(c, d), arith_of(short(b)))
 }
 
 fn ldr_str(a: u32, b: u32, c: u32, d: u32) -> Instruction {
@@ -162,7 +111,7 @@ fn ldb_stb(a: u32, b: u32, c: u32, d: u32) -> Instruction {
 }
 
 fn cmp(a: u32, b: u32, c: u32, d: u32) -> Instruction {
-    Instruction::Cmp(register(a), operand(c, d), compare(b))
+    Instruction::Cmp(register(a), operand(c, d), compare_of(short(b)))
 }
 
 fn cpy(a: u32, b: u32) -> Instruction {
@@ -170,7 +119,12 @@ fn cpy(a: u32, b: u32) -> Instruction {
 }
 
 fn arith_reg_reg(a: u32, b: u32, c: u32, d: u32) -> Instruction {
-    Instruction::ArithRegReg(register(a), register(c), register(d), seven(b))
+    Instruction::ArithRegReg(
+        register(a),
+        register(c),
+        register(d),
+        arithmetic_of(short(b)),
+    )
 }
 
 fn cond_jmp(a: u32, b: u32) -> Instruction {
@@ -202,6 +156,6 @@ fn built(op: u32, a: u32, b: u32, c: u32, d: u32) -> Instruction {
     }
 }
 
-pub fn instruction(r: Row) -> Instruction {
-    built(r.op, r.a, r.b, r.c, r.d)
+pub fn instruction(c: Command) -> Instruction {
+    built(c.a, c.b, c.c, c.d, c.e)
 }

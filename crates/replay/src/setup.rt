@@ -1,10 +1,12 @@
-// New buffers, and a zero state over them.
+// New buffers, and bytes that the host pokes into them.
 use crate::answers::Outcome;
-use crate::answers::Said;
-use crate::answers::changed;
-use crate::parse::number;
-use crate::state::State;
-use crate::state::zero;
+use crate::answers::bad;
+use crate::answers::done;
+use crate::lines::Command;
+use crate::names;
+use crate::texts::bytes_of;
+use crate::texts::copy;
+use journal::State;
 
 // Byte i is (seed * (i + 1) * 40503 / 128) mod 256. Only the product's remainder by 128 * 256 counts, so no more than
 // that is carried along; 40503 leaves 7735.
@@ -19,51 +21,40 @@ fn fill(buf: &mut [u8], seed: u32) {
     }
 }
 
-// The first n bytes of a buffer, seeded.
-fn renew(buf: &mut [u8], n: usize, seed: u32) {
-    if n <= buf.len() {
-        fill(&mut buf[0..n], seed);
+// `new`: the state is zero already (state.rt), and the buffers have their lengths.
+pub fn seed(w: State, c: Command, mem: &mut [u8], dev: &mut [u8], journal: &mut [u8]) -> Outcome {
+    fill(mem, c.e);
+    fill(dev, c.e);
+    fill(journal, c.e);
+    done(w)
+}
+
+// Pokes into the one buffer that the line has named.
+fn poke_in(w: State, c: Command, line: &[u8], buf: &mut [u8]) -> Outcome {
+    let text = bytes_of(line, c.text);
+    let from = c.a as usize;
+    if buf.len() < from {
+        return bad(w);
     }
+    if buf.len() - from < text.len() {
+        return bad(w);
+    }
+    copy(text, buf, from);
+    done(w)
 }
 
-// A zero state over buffers that are seeded anew.
-fn renewed(
-    mem: &mut [u8],
-    m: usize,
-    dev: &mut [u8],
-    d: usize,
-    journal: &mut [u8],
-    j: usize,
-    debug: bool,
-    seed: u32,
-) -> State {
-    renew(mem, m, seed);
-    renew(dev, d, seed);
-    renew(journal, j, seed);
-    zero(m, d, j, debug)
-}
-
-pub fn make(
-    s: State,
+pub fn poke(
+    w: State,
+    c: Command,
     line: &[u8],
-    at: usize,
     mem: &mut [u8],
     dev: &mut [u8],
     journal: &mut [u8],
 ) -> Outcome {
-    let m = number(line, at, 65792);
-    let d = number(line, m.next, 65792);
-    let j = number(line, d.next, 94300);
-    let debug = number(line, j.next, 1);
-    let seed = number(line, debug.next, 65535);
-    if seed.next != line.len() {
-        return changed(s, Said::Bad);
+    let buffer = c.choice;
+    match buffer {
+        names::MEMORY => poke_in(w, c, line, mem),
+        names::DEVICE => poke_in(w, c, line, dev),
+        _ => poke_in(w, c, line, journal),
     }
-    let m = m.value as usize;
-    let d = d.value as usize;
-    let j = j.value as usize;
-    changed(
-        renewed(mem, m, dev, d, journal, j, debug.value == 1, seed.value),
-        Said::Done,
-    )
 }

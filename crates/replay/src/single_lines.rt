@@ -1,76 +1,32 @@
 // A single line of assembly, with the label table that the script hands it.
-use crate::answers::Said;
 use crate::answers::refused;
-use crate::answers::say;
+use crate::instructions::encoded;
 use crate::label_tables;
-use crate::output;
-use crate::parse::WordList;
+use crate::lines::Command;
 use crate::parse::entry;
-use crate::texts::hex_text;
-use crate::texts::unhex;
-use instruction::Instruction;
-use printer::Printed;
+use crate::said::Said;
+use crate::said::word;
+use crate::texts::bytes_of;
 use single::LineAnswer;
-ghost use Prim.Native.Nat.{_≤_};
-ghost use lib.ListN.{length};
 
-// An answer without its instruction, so that nobody who is lent the output is handed one.
-enum Spelt {
-    // The command has a bad field.
-    Bad,
-    Refused(u8),
-    // The word, and the length of the text.
-    Is(u16, usize),
-}
-
-// Writes an instruction's text into a buffer.
-fn spell(i: Instruction, text: &mut [u8]) -> Spelt {
-    let word = instruction::encode(i);
-    let r = printer::print(i, text, 0);
-    match r {
-        Printed::Next(n) => Spelt::Is(word, n),
-        Printed::Refused(r) => Spelt::Refused(base::number(r)),
-    }
-}
-
-fn spell_answer(a: LineAnswer, text: &mut [u8]) -> Spelt {
+fn spelt(a: LineAnswer) -> Said {
     match a {
-        LineAnswer::Is(i) => spell(i, text),
-        LineAnswer::Refused(r) => Spelt::Refused(base::number(r)),
+        LineAnswer::Is(i) => encoded(i),
+        LineAnswer::Refused(r) => refused(r),
     }
 }
 
-// The word, then the instruction as it was written.
-fn spell_out(word: u16, n: usize, text: &[u8], out: &mut [u8], p: usize) -> usize {
-    let p = output::hex_word(out, p, word);
-    let p = output::put(out, p, b' ');
-    if n <= text.len() {
-        return output::text(out, p, &text[0..n]);
-    }
-    p
-}
-
-fn shown(s: Spelt, text: &[u8], out: &mut [u8], p: usize) -> usize {
-    match s {
-        Spelt::Bad => say(out, p, Said::Bad),
-        Spelt::Refused(n) => refused(out, p, n),
-        Spelt::Is(word, n) => spell_out(word, n, text, out, p),
-    }
-}
-
-// The entries that follow `at`, to the line's end, to a bad one or until there is no room.
+// The entries that follow `at`, to the line's end, to a bad one or until there is no room; where the last of them ended.
 fn entries(
     line: &[u8],
     at: usize,
-    places: &mut [usize],
-    lengths: &mut [usize],
-    addresses: &mut [u16],
-) -> WordList
-    requires { ⌜ (length (now places) ≤ length (now lengths)) × (length (now places) ≤ length (now addresses)) ⌝ }
-{
+    places: &mut [usize; 1100],
+    lengths: &mut [usize; 1100],
+    addresses: &mut [u16; 1100],
+) -> usize {
     let mut n: usize = 0;
     let mut next = at;
-    while n < places.len() {
+    while n < 1100 {
         if line.len() <= next {
             break;
         }
@@ -81,99 +37,32 @@ fn entries(
         next = e.next;
         n += 1;
     }
-    WordList { count: n, next }
+    next
 }
 
-// Parses the line of assembly with the first n entries. There are never fewer.
-fn parsed_with(
+fn with_entries(
     code: &[u8],
     names: &[u8],
-    places: &[usize],
-    lengths: &[usize],
-    addresses: &[u16],
-    n: usize,
-    text: &mut [u8],
-) -> Spelt {
-    if places.len() < n {
-        return Spelt::Bad;
-    }
-    if lengths.len() < n {
-        return Spelt::Bad;
-    }
-    if addresses.len() < n {
-        return Spelt::Bad;
-    }
-    let a = label_tables::parsed(code, names, &places[0..n], &lengths[0..n], &addresses[0..n]);
-    spell_answer(a, text)
+    places: &[usize; 1100],
+    lengths: &[usize; 1100],
+    addresses: &[u16; 1100],
+) -> LineAnswer {
+    label_tables::parsed(code, names, places, lengths, addresses)
 }
 
-// The same with the entries that follow `at`.
-fn parsed(line: &[u8], at: usize, code: &[u8], names: &[u8], text: &mut [u8]) -> Spelt {
+// Parses the line of assembly with the entries that follow `at`. Those past them are all zero, as the libraries' are (label_tables.rt).
+fn parsed(line: &[u8], at: usize, code: &[u8], names: &[u8]) -> Said {
     let mut place = [0usize; 1100];
     let mut length = [0usize; 1100];
     let mut address = [0u16; 1100];
-    let n = entries(line, at, &mut place, &mut length, &mut address);
-    if n.next != line.len() {
-        return Spelt::Bad;
+    let next = entries(line, at, &mut place, &mut length, &mut address);
+    if next != line.len() {
+        return word(b"?");
     }
-    parsed_with(code, names, &place, &length, &address, n.count, text)
+    spelt(with_entries(code, names, &place, &length, &address))
 }
 
-// The same where the text of the names is still in hex digits, and is put into `names`.
-fn parsed_names(
-    line: &[u8],
-    at: usize,
-    code: &[u8],
-    digits: &[u8],
-    names: &mut [u8],
-    text: &mut [u8],
-) -> Spelt {
-    unhex(digits, names);
-    parsed(line, at, code, names, text)
-}
-
-// The same where both are, and the line of assembly is put into `code`.
-fn parsed_code(
-    line: &[u8],
-    at: usize,
-    code_digits: &[u8],
-    digits: &[u8],
-    code: &mut [u8],
-    text: &mut [u8],
-) -> Spelt {
-    unhex(code_digits, code);
-    let n = digits.len() / 2;
-    if 65600 < n {
-        return Spelt::Bad;
-    }
-    let mut names = [0u8; 65600];
-    parsed_names(line, at, code, digits, &mut names[0..n], text)
-}
-
-fn parsed_digits(
-    line: &[u8],
-    at: usize,
-    code_digits: &[u8],
-    digits: &[u8],
-    text: &mut [u8],
-) -> Spelt {
-    let n = code_digits.len() / 2;
-    if 65600 < n {
-        return Spelt::Bad;
-    }
-    let mut code = [0u8; 65600];
-    parsed_code(line, at, code_digits, digits, &mut code[0..n], text)
-}
-
-// The line of assembly, the text that its labels' names stand in, and the entries. No instruction's text is longer than 64 bytes.
-pub fn parse_line(line: &[u8], at: usize, out: &mut [u8], p: usize) -> usize {
-    let code = hex_text(line, at);
-    let names = hex_text(line, code.next);
-    let a = code.start;
-    let b = code.end;
-    let d = names.start;
-    let e = names.end;
-    let mut text = [0u8; 64];
-    let s = parsed_digits(line, names.next, &line[a..b], &line[d..e], &mut text);
-    shown(s, &text, out, p)
+// The line of assembly, the text that its labels' names stand in, and the entries.
+pub fn parse_line(c: Command, line: &[u8]) -> Said {
+    parsed(line, c.next, bytes_of(line, c.text), bytes_of(line, c.rest))
 }

@@ -1,68 +1,74 @@
 // What the script's machine is, beside the three lent buffers.
-use machine::Machine;
+use crate::lines::Command;
+use crate::names;
+use journal::State;
 use machine::Registers;
 use map::Map;
 
-pub struct State {
-    // The machine, and how its journal stands.
-    pub whole: journal::State,
-    // How much of each buffer the last `new` asked for. The rest of a buffer is never lent to a command.
+// The machine with its journal's cursor, and how much of each buffer the last `new` asked for. The rest of a buffer is never
+// lent to a command.
+pub struct Script {
+    pub state: State,
     pub mem: usize,
     pub dev: usize,
     pub journal: usize,
 }
 
 // A zero state over buffers of these lengths.
-pub fn zero(mem: usize, dev: usize, journal: usize, debug: bool) -> State {
-    let whole = journal::new(debug);
-    State {
-        whole,
+pub fn zero(mem: usize, dev: usize, journal: usize, debug: bool) -> Script {
+    let state = journal::new(debug);
+    Script {
+        state,
         mem,
         dev,
         journal,
     }
 }
 
-pub fn machine_of(s: State) -> Machine {
-    let w = s.whole;
-    w.machine
+// What a command finds: `new` is lent what it asks for.
+pub fn found(s: Script, c: Command) -> Script {
+    if c.lent == names::BAD {
+        return s;
+    }
+    if c.name != names::NEW {
+        return s;
+    }
+    zero(c.a as usize, c.b as usize, c.c as usize, c.d == 1)
 }
 
-pub fn map_of(s: State) -> Map {
-    let m = machine_of(s);
-    m.map
-}
-
-pub fn with_whole(s: State, w: journal::State) -> State {
+pub fn with_state(s: Script, state: State) -> Script {
     let mut t = s;
-    t.whole = w;
+    t.state = state;
     t
 }
 
-fn with_machine(s: State, m: Machine) -> State {
-    let mut w = s.whole;
-    w.machine = m;
-    with_whole(s, w)
+pub fn map_of(w: State) -> Map {
+    let m = w.machine;
+    m.map
 }
 
 // The same state with other tables.
-pub fn with_map(s: State, tables: Map) -> State {
-    let mut m = machine_of(s);
+pub fn with_map(w: State, tables: Map) -> State {
+    let mut m = w.machine;
     m.map = tables;
-    with_machine(s, m)
+    let mut t = w;
+    t.machine = m;
+    t
 }
 
 // The same state with other registers.
-pub fn with_registers(s: State, r: Registers) -> State {
-    let mut m = machine_of(s);
+pub fn with_registers(w: State, r: Registers) -> State {
+    let mut m = w.machine;
     m.registers = r;
-    with_machine(s, m)
+    let mut t = w;
+    t.machine = m;
+    t
 }
 
 // The same state with a journal that stands elsewhere.
-pub fn with_cursor(s: State, next: u16, held: u16) -> State {
-    let mut w = s.whole;
-    w.next = next;
-    w.held = held;
-    with_whole(s, w)
+pub fn with_cursor(w: State, next: u16, held: u16) -> State {
+    let mut t = w;
+    t.next = next;
+    t.held = held;
+    t
 }

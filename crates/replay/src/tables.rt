@@ -1,12 +1,13 @@
 // The tables: raw from the line, or one entry more by the rules.
 use crate::answers::Outcome;
-use crate::answers::Said;
 use crate::answers::after;
-use crate::answers::changed;
-use crate::parse::word;
+use crate::answers::bad;
+use crate::answers::done;
+use crate::lines::Command;
+use crate::lines::short;
 use crate::parse::words;
-use crate::state::State;
 use crate::state::with_map;
+use journal::State;
 use map::Device;
 use map::Map;
 use map::Region;
@@ -60,38 +61,22 @@ fn tables_of(v: [u16; 34]) -> Map {
     }
 }
 
-pub fn tables(s: State, line: &[u8], at: usize) -> Outcome {
+pub fn tables(w: State, c: Command, line: &[u8]) -> Outcome {
     let mut v = [0u16; 34];
-    let w = words(line, at, &mut v);
-    if w.count != 34 {
-        return changed(s, Said::Bad);
+    let list = words(line, c.next, &mut v);
+    if list.count != 34 {
+        return bad(w);
     }
-    if w.next != line.len() {
-        return changed(s, Said::Bad);
+    if list.next != line.len() {
+        return bad(w);
     }
-    let m = tables_of(v);
-    changed(with_map(s, m), Said::Done)
+    done(with_map(w, tables_of(v)))
 }
 
-pub fn protect(s: State, line: &[u8], at: usize, dev: &[u8], journal: &[u8]) -> Outcome {
-    let start = word(line, at);
-    let len = word(line, start.next);
-    if len.next != line.len() {
-        return changed(s, Said::Bad);
-    }
-    let w = s.whole;
-    after(s, host::protect(w, dev, journal, start.value, len.value))
+pub fn protect(w: State, c: Command, dev: &[u8], journal: &[u8]) -> Outcome {
+    after(host::protect(w, dev, journal, short(c.a), short(c.b)))
 }
 
-pub fn register(s: State, line: &[u8], at: usize, dev: &[u8], journal: &[u8]) -> Outcome {
-    let start = word(line, at);
-    let size = word(line, start.next);
-    if size.next != line.len() {
-        return changed(s, Said::Bad);
-    }
-    let w = s.whole;
-    after(
-        s,
-        host::register_device(w, dev, journal, start.value, size.value),
-    )
+pub fn register(w: State, c: Command, dev: &[u8], journal: &[u8]) -> Outcome {
+    after(host::register_device(w, dev, journal, short(c.a), short(c.b)))
 }

@@ -1,17 +1,16 @@
--- `replay::assembling::append_copies` is safe and ends. The text keeps its length.
+-- `replay::assembling::append_copies` is safe and ends.
 -- Assumes nothing.
 use Prim.Native.Nat.{_-_}
 use mathlib.Core.Path.{_≡_}
-use lib.ListN.{length}
 use borrow.Author.Needs.{needs}
 use Rattle.replay.proofs.assembling.append_copies.Statement.{statement}
 use Rattle.replay.proofs.assembling.append_copies.Tie as tie
 
 abbrev Inv-loop : tie.InvT-loop
-Inv-loop digits count text₀ at₀ i₀ text at i = length text ≡ length text₀
+Inv-loop text count to₀ at₀ i₀ to at i = i ≡ i
 
 abbrev μ-loop : tie.MeasureT-loop
-μ-loop digits count text₀ at₀ i₀ text at i = count - i
+μ-loop text count to₀ at₀ i₀ to at i = count - i
 
 loop-holds : tie.Need-loop-holds Inv-loop μ-loop
 loop-holds c = search needs
@@ -28,22 +27,10 @@ loop-less c = search needs
 loop-again : tie.Need-loop-again Inv-loop μ-loop
 loop-again c = search needs
 
-same-length : tie.Need-same-length Inv-loop μ-loop
-same-length c = search needs
-
 returns : tie.Need-returns Inv-loop μ-loop
 returns c = search needs
 
 pub append-copies-spec : {M : Type 1} → statement M
 append-copies-spec =
     tie.close
-    (tie.spec
-    Inv-loop
-    μ-loop
-    loop-holds
-    append-requires
-    add-i
-    loop-less
-    loop-again
-    same-length
-    returns)
+    (tie.spec Inv-loop μ-loop loop-holds append-requires add-i loop-less loop-again returns)

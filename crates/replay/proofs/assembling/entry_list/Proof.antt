@@ -1,14 +1,13 @@
--- `replay::assembling::entry_list` is safe and ends. The output keeps its length.
+-- `replay::assembling::entry_list` is safe and ends.
 -- Assumes nothing.
 use Prim.Native.Nat.{_-_}
 use mathlib.Core.Path.{_≡_}
-use lib.ListN.{length}
 use borrow.Author.Needs.{needs}
 use Rattle.replay.proofs.assembling.entry_list.Statement.{statement}
 use Rattle.replay.proofs.assembling.entry_list.Tie as tie
 
 abbrev Inv-loop : tie.InvT-loop
-Inv-loop places lengths addresses n out₀ at p₀ i₀ out p i = length out ≡ length out₀
+Inv-loop places lengths addresses n out₀ at p₀ i₀ out p i = i ≡ i
 
 abbrev μ-loop : tie.MeasureT-loop
 μ-loop places lengths addresses n out₀ at p₀ i₀ out p i = n - i
@@ -18,9 +17,6 @@ returns c = search needs
 
 loop-holds : tie.Need-loop-holds Inv-loop μ-loop
 loop-holds c = search needs
-
-parted-requires : tie.Need-parted-requires Inv-loop μ-loop
-parted-requires c κs = search needs
 
 mul-entry : tie.Need-mul-entry Inv-loop μ-loop
 mul-entry c = search needs
@@ -43,6 +39,9 @@ element-copy-out-entry-3 c = search needs
 entry-requires : tie.Need-entry-requires Inv-loop μ-loop
 entry-requires c κs = search needs
 
+said-requires : tie.Need-said-requires Inv-loop μ-loop
+said-requires c κs = search needs
+
 add-i : tie.Need-add-i Inv-loop μ-loop
 add-i c = search needs
 
@@ -51,9 +50,6 @@ loop-less c = search needs
 
 loop-again : tie.Need-loop-again Inv-loop μ-loop
 loop-again c = search needs
-
-same-length : tie.Need-same-length Inv-loop μ-loop
-same-length c = search needs
 
 returns-2 : tie.Need-returns-2 Inv-loop μ-loop
 returns-2 c = search needs
@@ -66,7 +62,6 @@ entry-list-spec =
     μ-loop
     returns
     loop-holds
-    parted-requires
     mul-entry
     element-copy-out-entry
     mul-entry-2
@@ -74,8 +69,8 @@ entry-list-spec =
     mul-entry-3
     element-copy-out-entry-3
     entry-requires
+    said-requires
     add-i
     loop-less
     loop-again
-    same-length
     returns-2)

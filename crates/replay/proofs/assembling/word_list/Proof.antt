@@ -1,14 +1,13 @@
--- `replay::assembling::word_list` is safe and ends. The output keeps its length.
+-- `replay::assembling::word_list` is safe and ends.
 -- Assumes nothing.
 use Prim.Native.Nat.{_-_}
 use mathlib.Core.Path.{_≡_}
-use lib.ListN.{length}
 use borrow.Author.Needs.{needs}
 use Rattle.replay.proofs.assembling.word_list.Statement.{statement}
 use Rattle.replay.proofs.assembling.word_list.Tie as tie
 
 abbrev Inv-loop : tie.InvT-loop
-Inv-loop words n out₀ at p₀ i₀ out p i = length out ≡ length out₀
+Inv-loop words n out₀ at p₀ i₀ out p i = i ≡ i
 
 abbrev μ-loop : tie.MeasureT-loop
 μ-loop words n out₀ at p₀ i₀ out p i = n - i
@@ -31,6 +30,9 @@ element-copy-out-hex-word c = search needs
 hex-word-requires : tie.Need-hex-word-requires Inv-loop μ-loop
 hex-word-requires c κs = search needs
 
+said-requires : tie.Need-said-requires Inv-loop μ-loop
+said-requires c κs = search needs
+
 add-i : tie.Need-add-i Inv-loop μ-loop
 add-i c = search needs
 
@@ -39,9 +41,6 @@ loop-less c = search needs
 
 loop-again : tie.Need-loop-again Inv-loop μ-loop
 loop-again c = search needs
-
-same-length : tie.Need-same-length Inv-loop μ-loop
-same-length c = search needs
 
 returns-2 : tie.Need-returns-2 Inv-loop μ-loop
 returns-2 c = search needs
@@ -58,8 +57,8 @@ word-list-spec =
     mul-hex-word
     element-copy-out-hex-word
     hex-word-requires
+    said-requires
     add-i
     loop-less
     loop-again
-    same-length
     returns-2)

