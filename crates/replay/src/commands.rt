@@ -9,17 +9,16 @@ use crate::bytes::byte;
 use crate::bytes::put;
 use crate::bytes::put_word;
 use crate::bytes::word;
+use crate::dumps::dump;
+use crate::dumps::print;
 use crate::dumps::print_state;
-use crate::dumps::read;
 use crate::instructions::decode;
 use crate::instructions::encode;
-use crate::instructions::print;
 use crate::lines;
 use crate::lines::Command;
 use crate::lines::spelt_out;
 use crate::listings::listing;
 use crate::loads::load;
-use crate::loads::load_same;
 use crate::machines::back;
 use crate::machines::cursor;
 use crate::machines::forget;
@@ -81,8 +80,7 @@ fn storing(
     match name {
         names::PUT => put(w, c, mem, dev),
         names::PUTW => put_word(w, c, mem, dev),
-        names::LOAD => load(w, c, line, mem, dev, journal),
-        names::LOADN => load_same(w, c, mem, dev, journal),
+        names::LOAD | names::LOADN => load(w, c, line, mem, dev, journal),
         names::BACK => back(w, mem, dev, journal),
         _ => bad(w),
     }
@@ -146,9 +144,9 @@ fn show(
     p: usize,
 ) -> usize {
     match printing(c) {
-        names::READ => read(w, c, mem, dev, journal, out, p),
+        names::READ => dump(w, c, mem, dev, journal, out, p),
         names::STATE => print_state(w, mem, dev, journal, out, p),
-        names::PRINT => print(c, out, p),
+        names::PRINT => print(w, c, mem, dev, journal, out, p),
         names::ASM => assemble(c, line, out, p),
         names::ASMN => assemble_copies(c, line, out, p),
         names::LISTING => listing(c, line, out, p),
@@ -210,17 +208,26 @@ fn sized(
     )
 }
 
-// The answer to a line.
+// How much of the line is a command. One that did not fit is none, as an empty one is.
+fn fitting(have: usize, room: usize) -> usize
+    ensures { λ r. ⌜ r ≤ room ⌝ }
+{
+    if room < have { 0 } else { have }
+}
+
+// The answer to the line that has so many bytes.
 pub fn answer(
     s: Script,
     line: &mut [u8],
+    have: usize,
     mem: &mut [u8; 65792],
     dev: &mut [u8; 65792],
     journal: &mut [u8; 94300],
     out: &mut [u8; 65536],
     p: usize,
 ) -> Turn {
-    let c = spelt_out(lines::read(line), line);
+    let n = fitting(have, line.len());
+    let c = spelt_out(lines::read(&line[0..n]), line);
     let t = found(s, c);
-    sized(t, c, line, mem, dev, journal, out, p)
+    sized(t, c, &line[0..n], mem, dev, journal, out, p)
 }

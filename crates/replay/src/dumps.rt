@@ -1,9 +1,13 @@
 // The long answers: a part of memory, and the whole state.
 use crate::adler::adler;
 use crate::answers::counted;
+use crate::answers::printed;
+use crate::instructions::decode;
+use crate::instructions::is_instruction;
+use crate::instructions::print_word;
 use crate::lines::Command;
-use crate::lines::room;
 use crate::lines::short;
+use crate::names;
 use crate::output;
 use crate::said::Said;
 use crate::said::hex_eight;
@@ -11,14 +15,32 @@ use crate::said::put;
 use crate::said::word;
 use journal::State;
 use machine::Machine;
+ghost use Prim.Native.Nat.{_≤_};
 
-// A verdict, and then the first n bytes of a buffer.
-pub fn dump(t: Said, buf: &[u8; 65600], n: usize, out: &mut [u8; 65536], p: usize) -> usize {
+// What a command leaves in a buffer, and what it says of that.
+fn filled(w: State, c: Command, mem: &[u8], dev: &[u8], journal: &[u8], buf: &mut [u8]) -> Said {
+    if c.name == names::PRINT {
+        return printed(print_word(short(c.a), buf));
+    }
+    counted(host::read_out(w, mem, dev, journal, short(c.a), c.b as usize, buf))
+}
+
+// How long the buffer is that the line asks for.
+fn room(c: Command) -> usize
+    ensures { λ r. ⌜ r ≤ 65600 ⌝ }
+{
+    let n = if c.name == names::PRINT { c.b } else { c.c };
+    if 65600 < n { 0 } else { n as usize }
+}
+
+// The verdict, and then the first n bytes of the buffer.
+fn shown(t: Said, buf: &[u8; 65600], n: usize, out: &mut [u8; 65536], p: usize) -> usize {
     let p = output::said(out, p, put(t, b' '));
     output::hex_bytes(out, p, buf, n)
 }
 
-pub fn read(
+// Commands that fill a buffer and show it whole.
+pub fn dump(
     w: State,
     c: Command,
     mem: &[u8],
@@ -27,18 +49,26 @@ pub fn read(
     out: &mut [u8; 65536],
     p: usize,
 ) -> usize {
-    let n = room(c.c);
+    let n = room(c);
     let mut buf = [0xEEu8; 65600];
-    let r = host::read_out(
-        w,
-        mem,
-        dev,
-        journal,
-        short(c.a),
-        c.b as usize,
-        &mut buf[0..n],
-    );
-    dump(counted(r), &buf, n, out, p)
+    let t = filled(w, c, mem, dev, journal, &mut buf[0..n]);
+    shown(t, &buf, n, out, p)
+}
+
+// A word that is no instruction has nothing to show.
+pub fn print(
+    w: State,
+    c: Command,
+    mem: &[u8],
+    dev: &[u8],
+    journal: &[u8],
+    out: &mut [u8; 65536],
+    p: usize,
+) -> usize {
+    if is_instruction(short(c.a)) {
+        return dump(w, c, mem, dev, journal, out, p);
+    }
+    output::said(out, p, decode(c))
 }
 
 // Registers, debug mode, both tables with their counts, next and held: the numbers of the state, in the order of its line.

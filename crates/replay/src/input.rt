@@ -5,7 +5,6 @@ use crate::output::flush;
 use crate::state::Script;
 use crate::state::zero;
 use libc::STDIN_FILENO;
-ghost use Prim.Native.Nat.{_≤_};
 
 // How far input and output are.
 struct Flow {
@@ -115,26 +114,6 @@ fn passed(f: Flow, at: usize, out: &[u8; 65536]) -> Flow {
     t
 }
 
-// Answers the first `have` bytes of the line. One that did not fit is no command, as an empty one is none.
-fn answer_first(
-    s: Script,
-    f: Flow,
-    mem: &mut [u8; 65792],
-    dev: &mut [u8; 65792],
-    journal: &mut [u8; 94300],
-    line: &mut [u8],
-    out: &mut [u8; 65536],
-) -> Turn {
-    let n = fitting(f.have, line.len());
-    answer(s, &mut line[0..n], mem, dev, journal, out, f.at)
-}
-
-fn fitting(have: usize, room: usize) -> usize
-    ensures { λ r. ⌜ r ≤ room ⌝ }
-{
-    if room < have { 0 } else { have }
-}
-
 // Answers the line, if it has come whole.
 fn turn(
     s: Script,
@@ -151,7 +130,7 @@ fn turn(
             at: f.at,
         };
     }
-    answer_first(s, f, mem, dev, journal, line, out)
+    answer(s, line, f.have, mem, dev, journal, out, f.at)
 }
 
 // Takes or reads what comes next, and answers it where that makes a line.

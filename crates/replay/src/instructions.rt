@@ -1,11 +1,7 @@
 // Words and instructions: decoded, printed, encoded from fields. Nothing here looks at the machine.
-use crate::answers::printed;
 use crate::answers::refused;
-use crate::dumps::dump;
 use crate::lines::Command;
-use crate::lines::room;
 use crate::lines::short;
-use crate::output;
 use crate::rows;
 use crate::said::Said;
 use crate::said::add;
@@ -53,7 +49,7 @@ pub fn decode(c: Command) -> Said {
 }
 
 // Prints the instruction of a word into a buffer. Where the word is none, nothing is printed, and the refusal is the word's.
-fn print_word(w: u16, buf: &mut [u8]) -> Printed {
+pub fn print_word(w: u16, buf: &mut [u8]) -> Printed {
     let d = instruction::decode(w);
     match d {
         Decoded::Ok(i) => printer::print(i, buf, 0),
@@ -61,21 +57,10 @@ fn print_word(w: u16, buf: &mut [u8]) -> Printed {
     }
 }
 
-fn is_instruction(w: u16) -> bool {
+pub fn is_instruction(w: u16) -> bool {
     let d = instruction::decode(w);
     match d {
         Decoded::Ok(_) => true,
         Decoded::Refused(_) => false,
     }
-}
-
-pub fn print(c: Command, out: &mut [u8; 65536], p: usize) -> usize {
-    let w = short(c.a);
-    if !is_instruction(w) {
-        return output::said(out, p, decode(c));
-    }
-    let n = room(c.b);
-    let mut buf = [0xEEu8; 65600];
-    let r = print_word(w, &mut buf[0..n]);
-    dump(printed(r), &buf, n, out, p)
 }

@@ -13,7 +13,6 @@ use crate::texts::Text;
 use crate::texts::hex_text;
 use crate::texts::no_text;
 use crate::texts::spelt;
-ghost use Prim.Native.Nat.{_≤_};
 
 pub struct Command {
     pub name: u64,
@@ -136,11 +135,4 @@ pub fn spelt_out(c: Command, line: &mut [u8]) -> Command {
 // A field of sixteen bits: its shape allows no more.
 pub fn short(n: u32) -> u16 {
     (n % 65536) as u16
-}
-
-// A field that is the length of an output buffer.
-pub fn room(n: u32) -> usize
-    ensures { λ r. ⌜ r ≤ 65600 ⌝ }
-{
-    if 65600 < n { 0 } else { n as usize }
 }

@@ -4,24 +4,40 @@ use crate::answers::after;
 use crate::answers::bad;
 use crate::lines::Command;
 use crate::lines::short;
+use crate::names;
+use crate::parse::NOWHERE;
 use crate::parse::words;
 use journal::State;
 
-// Loads the first n of these words. There are never fewer.
+// Loads the first n of these words. Nowhere is past them all.
 fn program(
     w: State,
+    v: &[u16; 32800],
+    n: usize,
     mem: &mut [u8],
     dev: &mut [u8],
     journal: &[u8],
-    v: &[u16],
-    n: usize,
 ) -> Outcome {
-    if v.len() < n {
+    let all = &v[..];
+    if all.len() < n {
         return bad(w);
     }
-    after(host::write_program(w, mem, dev, journal, &v[0..n]))
+    after(host::write_program(w, mem, dev, journal, &all[0..n]))
 }
 
+// How many words the line has: those of its list, which are put into v, or as many as it says. Nowhere where the list is bad.
+fn count(c: Command, line: &[u8], v: &mut [u16; 32800]) -> usize {
+    if c.name == names::LOADN {
+        return c.a as usize;
+    }
+    let list = words(line, c.next, v);
+    if list.next != line.len() {
+        return NOWHERE;
+    }
+    list.count
+}
+
+// `load` and `loadn`. Before a list is read every word is the one that is to be loaded again and again.
 pub fn load(
     w: State,
     c: Command,
@@ -30,15 +46,7 @@ pub fn load(
     dev: &mut [u8],
     journal: &[u8],
 ) -> Outcome {
-    let mut v = [0u16; 32800];
-    let list = words(line, c.next, &mut v);
-    if list.next != line.len() {
-        return bad(w);
-    }
-    program(w, mem, dev, journal, &v, list.count)
-}
-
-pub fn load_same(w: State, c: Command, mem: &mut [u8], dev: &mut [u8], journal: &[u8]) -> Outcome {
-    let v = [short(c.b); 32800];
-    program(w, mem, dev, journal, &v, c.a as usize)
+    let mut v = [short(c.b); 32800];
+    let n = count(c, line, &mut v);
+    program(w, &v, n, mem, dev, journal)
 }

@@ -199,24 +199,11 @@ pub fn shape_of(name: u64) -> Shape {
     }
 }
 
-fn is_buffer(name: u64) -> bool {
-    match name {
-        MEMORY | DEVICE | JOURNAL => true,
-        _ => false,
-    }
-}
-
-fn are_rules(name: u64) -> bool {
-    match name {
-        PLAIN | STRICT => true,
-        _ => false,
-    }
-}
-
 // Whether a field that chooses so may have this name in it.
 pub fn is_choice(choice: u8, name: u64) -> bool {
-    if choice == BUFFER {
-        return is_buffer(name);
+    match name {
+        MEMORY | DEVICE | JOURNAL => choice == BUFFER,
+        PLAIN | STRICT => choice == RULES,
+        _ => false,
     }
-    are_rules(name)
 }

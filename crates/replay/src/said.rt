@@ -1,6 +1,5 @@
 // A short answer, by value: put together piece by piece, and written to the output once. The longest is the totals of a text,
 // which have up to 65 bytes; what has no room is left out.
-ghost use Prim.Native.Nat.{_≤_};
 
 pub struct Said {
     pub bytes: [u8; 80],
@@ -27,11 +26,16 @@ pub fn put(t: Said, b: u8) -> Said {
 
 pub fn add(t: Said, s: &[u8]) -> Said {
     let mut r = t;
+    let mut n = t.len;
     let mut i: usize = 0;
     while i < s.len() {
-        r = put(r, s[i]);
+        if n < 80 {
+            r.bytes[n] = s[i];
+            n += 1;
+        }
         i += 1;
     }
+    r.len = n;
     r
 }
 

@@ -8,19 +8,22 @@ use Rattle.replay.proofs.said.add.Statement.{statement}
 use Rattle.replay.proofs.said.add.Tie as tie
 
 abbrev Inv-loop : tie.InvT-loop
-Inv-loop s r₀ i₀ r i = i ≡ i
+Inv-loop s r₀ n₀ i₀ r n i = i ≡ i
 
 abbrev μ-loop : tie.MeasureT-loop
-μ-loop s r₀ i₀ r i = length s - i
+μ-loop s r₀ n₀ i₀ r n i = length s - i
 
 loop-holds : tie.Need-loop-holds Inv-loop μ-loop
 loop-holds c = search needs
 
-shared-slice-read-put : tie.Need-shared-slice-read-put Inv-loop μ-loop
-shared-slice-read-put c = search needs
+shared-slice-read-r : tie.Need-shared-slice-read-r Inv-loop μ-loop
+shared-slice-read-r c = search needs
 
-put-requires : tie.Need-put-requires Inv-loop μ-loop
-put-requires c κs = search needs
+element-write-r : tie.Need-element-write-r Inv-loop μ-loop
+element-write-r c = search needs
+
+add-n : tie.Need-add-n Inv-loop μ-loop
+add-n c = search needs
 
 add-i : tie.Need-add-i Inv-loop μ-loop
 add-i c = search needs
@@ -41,8 +44,9 @@ add-spec =
     Inv-loop
     μ-loop
     loop-holds
-    shared-slice-read-put
-    put-requires
+    shared-slice-read-r
+    element-write-r
+    add-n
     add-i
     loop-less
     loop-again
