@@ -4,6 +4,7 @@ use crate::label_tables;
 use crate::lines::Command;
 use crate::names;
 use crate::output;
+use crate::output::Output;
 use crate::parse::NOWHERE;
 use crate::said::Said;
 use crate::said::add;
@@ -27,7 +28,7 @@ fn parted(i: usize) -> Said {
 
 // The first n words, with spaces between them. Neither this nor the next asks its caller for a bound of n: there, it would be far to
 // fetch.
-fn word_list(words: &[u16; 32800], n: usize, out: &mut [u8; 65536], at: usize) -> usize {
+fn word_list(words: &[u16; 32800], n: usize, out: &mut Output, at: usize) -> usize {
     if 32800 < n {
         return at;
     }
@@ -52,7 +53,7 @@ fn entry_list(
     lengths: &[usize; 1100],
     addresses: &[u16; 1100],
     n: usize,
-    out: &mut [u8; 65536],
+    out: &mut Output,
     at: usize,
 ) -> usize {
     if 1100 < n {
@@ -76,7 +77,7 @@ fn shown(
     lengths: &[usize; 1100],
     addresses: &[u16; 1100],
     label_room: usize,
-    out: &mut [u8; 65536],
+    out: &mut Output,
     p: usize,
 ) -> usize {
     let p = output::said(out, p, add(answers::assembled(r), b" | "));
@@ -99,7 +100,7 @@ fn label_room(c: Command) -> usize
 }
 
 // Assembles a text.
-fn assembled(c: Command, text: &[u8], out: &mut [u8; 65536], p: usize) -> usize {
+fn assembled(c: Command, text: &[u8], out: &mut Output, p: usize) -> usize {
     let words = word_room(c);
     let labels = label_room(c);
     let strict = c.choice == names::STRICT;
@@ -119,7 +120,7 @@ fn assembled(c: Command, text: &[u8], out: &mut [u8; 65536], p: usize) -> usize 
     shown(r, &word, words, &place, &length, &address, labels, out, p)
 }
 
-pub fn assemble(c: Command, line: &[u8], out: &mut [u8; 65536], p: usize) -> usize {
+pub fn assemble(c: Command, line: &[u8], out: &mut Output, p: usize) -> usize {
     assembled(c, bytes_of(line, c.text), out, p)
 }
 
@@ -146,13 +147,7 @@ fn append_copies(text: &[u8], count: usize, to: &mut [u8; 131200]) -> usize {
 }
 
 // Assembles the first n bytes.
-fn assembled_first(
-    c: Command,
-    text: &[u8; 131200],
-    n: usize,
-    out: &mut [u8; 65536],
-    p: usize,
-) -> usize {
+fn assembled_first(c: Command, text: &[u8; 131200], n: usize, out: &mut Output, p: usize) -> usize {
     let all = &text[..];
     if all.len() < n {
         return output::said(out, p, word(b"?"));
@@ -162,7 +157,7 @@ fn assembled_first(
 
 // Assembles so many copies of the line's first text and then the second. No text of 65,600 bytes has 32,768 instructions, so that
 // this alone can fill a program.
-pub fn assemble_copies(c: Command, line: &[u8], out: &mut [u8; 65536], p: usize) -> usize {
+pub fn assemble_copies(c: Command, line: &[u8], out: &mut Output, p: usize) -> usize {
     let mut text = [0u8; 131200];
     let at = append_copies(bytes_of(line, c.text), c.c as usize, &mut text);
     let n = append(bytes_of(line, c.rest), &mut text, at);

@@ -28,10 +28,13 @@ use crate::machines::set;
 use crate::machines::step;
 use crate::names;
 use crate::output;
+use crate::output::Output;
 use crate::said::Said;
 use crate::setup::poke;
 use crate::setup::seed;
 use crate::single_lines::parse_line;
+use crate::state::Journal;
+use crate::state::Memory;
 use crate::state::Script;
 use crate::state::found;
 use crate::state::with_state;
@@ -140,7 +143,7 @@ fn show(
     mem: &[u8],
     dev: &[u8],
     journal: &[u8],
-    out: &mut [u8; 65536],
+    out: &mut Output,
     p: usize,
 ) -> usize {
     match printing(c) {
@@ -161,7 +164,7 @@ fn perform(
     mem: &mut [u8],
     dev: &mut [u8],
     journal: &mut [u8],
-    out: &mut [u8; 65536],
+    out: &mut Output,
     p: usize,
 ) -> Turn {
     let w = s.state;
@@ -190,7 +193,7 @@ fn sized(
     mem: &mut [u8],
     dev: &mut [u8],
     journal: &mut [u8],
-    out: &mut [u8; 65536],
+    out: &mut Output,
     p: usize,
 ) -> Turn {
     let m = least(s.mem, mem.len());
@@ -220,10 +223,10 @@ pub fn answer(
     s: Script,
     line: &mut [u8],
     have: usize,
-    mem: &mut [u8; 65792],
-    dev: &mut [u8; 65792],
-    journal: &mut [u8; 94300],
-    out: &mut [u8; 65536],
+    mem: &mut Memory,
+    dev: &mut Memory,
+    journal: &mut Journal,
+    out: &mut Output,
     p: usize,
 ) -> Turn {
     let n = fitting(have, line.len());

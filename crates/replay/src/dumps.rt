@@ -9,6 +9,7 @@ use crate::lines::Command;
 use crate::lines::short;
 use crate::names;
 use crate::output;
+use crate::output::Output;
 use crate::said::Said;
 use crate::said::hex_eight;
 use crate::said::put;
@@ -34,7 +35,7 @@ fn room(c: Command) -> usize
 }
 
 // The verdict, and then the first n bytes of the buffer.
-fn shown(t: Said, buf: &[u8; 65600], n: usize, out: &mut [u8; 65536], p: usize) -> usize {
+fn shown(t: Said, buf: &[u8; 65600], n: usize, out: &mut Output, p: usize) -> usize {
     let p = output::said(out, p, put(t, b' '));
     output::hex_bytes(out, p, buf, n)
 }
@@ -46,7 +47,7 @@ pub fn dump(
     mem: &[u8],
     dev: &[u8],
     journal: &[u8],
-    out: &mut [u8; 65536],
+    out: &mut Output,
     p: usize,
 ) -> usize {
     let n = room(c);
@@ -62,7 +63,7 @@ pub fn print(
     mem: &[u8],
     dev: &[u8],
     journal: &[u8],
-    out: &mut [u8; 65536],
+    out: &mut Output,
     p: usize,
 ) -> usize {
     if is_instruction(short(c.a)) {
@@ -113,7 +114,7 @@ pub fn print_state(
     mem: &[u8],
     dev: &[u8],
     journal: &[u8],
-    out: &mut [u8; 65536],
+    out: &mut Output,
     p: usize,
 ) -> usize {
     let v = numbers(w);

@@ -1,10 +1,18 @@
 // Standard input, cut into lines.
 use crate::commands::Turn;
 use crate::commands::answer;
+use crate::output::Output;
 use crate::output::flush;
+use crate::state::Journal;
+use crate::state::Memory;
 use crate::state::Script;
 use crate::state::zero;
 use libc::STDIN_FILENO;
+
+// Room for the longest line that a command may need, and for what is read at a time.
+type Line = [u8; 524288];
+
+type Chunk = [u8; 65536];
 
 // How far input and output are.
 struct Flow {
@@ -80,7 +88,7 @@ fn took(f: Flow, chunk: &[u8], line: &mut [u8]) -> Flow {
 
 // Reads once more. What waits is written out before, so that whoever sends line by line has each answer before the
 // next read. Where the input has ended, what is left is a line, though no line end follows it.
-fn refill(f: Flow, chunk: &mut [u8; 65536], out: &[u8; 65536]) -> Flow {
+fn refill(f: Flow, chunk: &mut Chunk, out: &Output) -> Flow {
     flush(out, f.at);
     let got = libc::read(STDIN_FILENO, chunk);
     let n = io::count(got, chunk);
@@ -94,7 +102,7 @@ fn refill(f: Flow, chunk: &mut [u8; 65536], out: &[u8; 65536]) -> Flow {
     }
 }
 
-fn gather(f: Flow, chunk: &mut [u8; 65536], line: &mut [u8; 524288], out: &[u8; 65536]) -> Flow {
+fn gather(f: Flow, chunk: &mut Chunk, line: &mut Line, out: &Output) -> Flow {
     if f.from < f.count {
         return took(f, chunk, line);
     }
@@ -102,7 +110,7 @@ fn gather(f: Flow, chunk: &mut [u8; 65536], line: &mut [u8; 524288], out: &[u8; 
 }
 
 // The flow after its turn: where a line was answered, the next one begins; after the last, what waits is written out.
-fn passed(f: Flow, at: usize, out: &[u8; 65536]) -> Flow {
+fn passed(f: Flow, at: usize, out: &Output) -> Flow {
     let mut t = f;
     t.at = at;
     if f.is_whole {
@@ -118,11 +126,11 @@ fn passed(f: Flow, at: usize, out: &[u8; 65536]) -> Flow {
 fn turn(
     s: Script,
     f: Flow,
-    mem: &mut [u8; 65792],
-    dev: &mut [u8; 65792],
-    journal: &mut [u8; 94300],
-    line: &mut [u8; 524288],
-    out: &mut [u8; 65536],
+    mem: &mut Memory,
+    dev: &mut Memory,
+    journal: &mut Journal,
+    line: &mut Line,
+    out: &mut Output,
 ) -> Turn {
     if !f.is_whole {
         return Turn {
@@ -136,12 +144,12 @@ fn turn(
 // Takes or reads what comes next, and answers it where that makes a line.
 fn round(
     s: Session,
-    mem: &mut [u8; 65792],
-    dev: &mut [u8; 65792],
-    journal: &mut [u8; 94300],
-    chunk: &mut [u8; 65536],
-    line: &mut [u8; 524288],
-    out: &mut [u8; 65536],
+    mem: &mut Memory,
+    dev: &mut Memory,
+    journal: &mut Journal,
+    chunk: &mut Chunk,
+    line: &mut Line,
+    out: &mut Output,
 ) -> Session {
     let f = gather(s.flow, chunk, line, out);
     let script = s.script;
@@ -175,12 +183,12 @@ fn is_over(s: Session) -> bool {
 // A proved loop has to end, and nothing says that the input does. So the loop counts its turns down, from a number
 // that no run uses up; it stops where the input does.
 pub fn run(
-    mem: &mut [u8; 65792],
-    dev: &mut [u8; 65792],
-    journal: &mut [u8; 94300],
-    chunk: &mut [u8; 65536],
-    line: &mut [u8; 524288],
-    out: &mut [u8; 65536],
+    mem: &mut Memory,
+    dev: &mut Memory,
+    journal: &mut Journal,
+    chunk: &mut Chunk,
+    line: &mut Line,
+    out: &mut Output,
 ) {
     let mut s = start();
     let mut turns = u64::MAX;

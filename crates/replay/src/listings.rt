@@ -2,10 +2,11 @@
 use crate::answers::refused;
 use crate::lines::Command;
 use crate::output;
+use crate::output::Output;
 use crate::texts::bytes_of;
 use printer::Printed;
 
-fn shown(r: Printed, list: &[u8; 262144], out: &mut [u8; 65536], p: usize) -> usize {
+fn shown(r: Printed, list: &[u8; 262144], out: &mut Output, p: usize) -> usize {
     match r {
         Printed::Next(n) => output::hex_bytes(out, p, list, n),
         Printed::Refused(r) => output::said(out, p, refused(r)),
@@ -18,7 +19,7 @@ fn list_into(text: &[u8], list: &mut [u8; 262144]) -> Printed {
     lister::list(text, list)
 }
 
-pub fn listing(c: Command, line: &[u8], out: &mut [u8; 65536], p: usize) -> usize {
+pub fn listing(c: Command, line: &[u8], out: &mut Output, p: usize) -> usize {
     let mut list = [0u8; 262144];
     let r = list_into(bytes_of(line, c.text), &mut list);
     shown(r, &list, out, p)

@@ -1,7 +1,7 @@
 // The commands: what each is called, what it is lent, and what fields it has.
 //
 // A name is one number, whose bytes are the name's letters in ASCII: n, e and w are 6e, 65 and 77. So it is read once, and
-// looked up by one `match`.
+// looked up by one `match`. What is longer than eight bytes, or has a zero among them, is no name.
 pub const NO_NAME: u64 = 18446744073709551615;
 
 pub const NEW: u64 = 0x6e6577;

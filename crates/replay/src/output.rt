@@ -6,7 +6,9 @@ use crate::said;
 use crate::said::Said;
 use libc::STDOUT_FILENO;
 
-pub fn put(out: &mut [u8; 65536], at: usize, b: u8) -> usize {
+pub type Output = [u8; 65536];
+
+pub fn put(out: &mut Output, at: usize, b: u8) -> usize {
     if at < 65536 {
         out[at] = b;
         return at + 1;
@@ -17,7 +19,7 @@ pub fn put(out: &mut [u8; 65536], at: usize, b: u8) -> usize {
 }
 
 // Writes out what waits.
-pub fn flush(out: &[u8; 65536], at: usize) {
+pub fn flush(out: &Output, at: usize) {
     write_first(out, at);
 }
 
@@ -28,7 +30,7 @@ fn write_first(out: &[u8], n: usize) {
 }
 
 // The first n bytes of a text.
-fn first(out: &mut [u8; 65536], at: usize, t: &[u8], n: usize) -> usize {
+fn first(out: &mut Output, at: usize, t: &[u8], n: usize) -> usize {
     let mut p = at;
     let mut i: usize = 0;
     while i < n {
@@ -39,7 +41,7 @@ fn first(out: &mut [u8; 65536], at: usize, t: &[u8], n: usize) -> usize {
 }
 
 // A short answer.
-pub fn said(out: &mut [u8; 65536], at: usize, t: Said) -> usize {
+pub fn said(out: &mut Output, at: usize, t: Said) -> usize {
     let bytes = t.bytes;
     first(out, at, &bytes, t.len)
 }
@@ -49,7 +51,7 @@ fn followed(n: u16, b: u8) -> Said {
 }
 
 // Numbers, each with the byte after it that stands at its place in `after`.
-pub fn numbers(out: &mut [u8; 65536], at: usize, v: &[u16], after: &[u8]) -> usize {
+pub fn numbers(out: &mut Output, at: usize, v: &[u16], after: &[u8]) -> usize {
     let mut p = at;
     let mut i: usize = 0;
     while i < v.len() {
@@ -65,7 +67,7 @@ fn hex_digit(n: u8) -> u8 {
 }
 
 // The first n bytes in pairs of hex digits; `-` where there are none.
-pub fn hex_bytes(out: &mut [u8; 65536], at: usize, bytes: &[u8], n: usize) -> usize {
+pub fn hex_bytes(out: &mut Output, at: usize, bytes: &[u8], n: usize) -> usize {
     if n == 0 {
         return put(out, at, b'-');
     }

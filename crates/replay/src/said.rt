@@ -1,5 +1,5 @@
-// A short answer, by value: put together piece by piece, and written to the output once. The longest is the totals of a text,
-// which have up to 65 bytes; what has no room is left out.
+// A short answer, by value: put together piece by piece, and written to the output once. The longest is an instruction's word and
+// its text, 69 bytes at most; what has no room is left out.
 
 pub struct Said {
     pub bytes: [u8; 80],

@@ -5,6 +5,11 @@ use journal::State;
 use machine::Registers;
 use map::Map;
 
+// The buffers at the longest that a script may ask for: memory as well as device bytes, and the journal.
+pub type Memory = [u8; 65792];
+
+pub type Journal = [u8; 94300];
+
 // The machine with its journal's cursor, and how much of each buffer the last `new` asked for. The rest of a buffer is never
 // lent to a command.
 pub struct Script {

@@ -1,13 +1,12 @@
 -- `replay::assembling::append_copies` is safe and ends.
 -- Assumes nothing.
-use Prim.Native.Nat.{_-_}
-use mathlib.Core.Path.{_≡_}
+use Prim.Native.Nat.{_≤_, _-_}
 use borrow.Author.Needs.{needs}
 use Rattle.replay.proofs.assembling.append_copies.Statement.{statement}
 use Rattle.replay.proofs.assembling.append_copies.Tie as tie
 
 abbrev Inv-loop : tie.InvT-loop
-Inv-loop text count to₀ at₀ i₀ to at i = i ≡ i
+Inv-loop text count to₀ at₀ i₀ to at i = i ≤ count
 
 abbrev μ-loop : tie.MeasureT-loop
 μ-loop text count to₀ at₀ i₀ to at i = count - i

@@ -1,13 +1,12 @@
 -- `replay::assembling::entry_list` is safe and ends.
 -- Assumes nothing.
-use Prim.Native.Nat.{_-_}
-use mathlib.Core.Path.{_≡_}
+use Prim.Native.Nat.{_≤_, _-_}
 use borrow.Author.Needs.{needs}
 use Rattle.replay.proofs.assembling.entry_list.Statement.{statement}
 use Rattle.replay.proofs.assembling.entry_list.Tie as tie
 
 abbrev Inv-loop : tie.InvT-loop
-Inv-loop places lengths addresses n out₀ at p₀ i₀ out p i = i ≡ i
+Inv-loop places lengths addresses n out₀ at p₀ i₀ out p i = i ≤ n
 
 abbrev μ-loop : tie.MeasureT-loop
 μ-loop places lengths addresses n out₀ at p₀ i₀ out p i = n - i

@@ -1,12 +1,12 @@
 -- `replay::input::run` is safe and ends. The measure is the number of turns that are left.
 -- Assumes nothing.
-use mathlib.Core.Path.{_≡_}
+use Prim.Native.Nat.{_≤_}
 use borrow.Author.Needs.{needs}
 use Rattle.replay.proofs.input.run.Statement.{statement}
 use Rattle.replay.proofs.input.run.Tie as tie
 
 abbrev Inv-loop : tie.InvT-loop
-Inv-loop mem₀ dev₀ journal₀ chunk₀ line₀ out₀ s₀ turns₀ mem dev journal chunk line out s turns = turns ≡ turns
+Inv-loop mem₀ dev₀ journal₀ chunk₀ line₀ out₀ s₀ turns₀ mem dev journal chunk line out s turns = turns ≤ turns₀
 
 abbrev μ-loop : tie.MeasureT-loop
 μ-loop mem₀ dev₀ journal₀ chunk₀ line₀ out₀ s₀ turns₀ mem dev journal chunk line out s turns = turns

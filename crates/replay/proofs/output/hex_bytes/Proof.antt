@@ -1,13 +1,12 @@
 -- `replay::output::hex_bytes` is safe and ends.
 -- Assumes nothing.
-use Prim.Native.Nat.{_-_}
-use mathlib.Core.Path.{_≡_}
+use Prim.Native.Nat.{_≤_, _-_}
 use borrow.Author.Needs.{needs}
 use Rattle.replay.proofs.output.hex_bytes.Statement.{statement}
 use Rattle.replay.proofs.output.hex_bytes.Tie as tie
 
 abbrev Inv-loop : tie.InvT-loop
-Inv-loop out₀ at bytes n p₀ i₀ out p i = i ≡ i
+Inv-loop out₀ at bytes n p₀ i₀ out p i = i ≤ n
 
 abbrev μ-loop : tie.MeasureT-loop
 μ-loop out₀ at bytes n p₀ i₀ out p i = n - i

@@ -1,14 +1,13 @@
 -- `replay::output::numbers` is safe and ends.
 -- Assumes nothing.
-use Prim.Native.Nat.{_-_}
-use mathlib.Core.Path.{_≡_}
+use Prim.Native.Nat.{_≤_, _-_}
 use lib.ListN.{length}
 use borrow.Author.Needs.{needs}
 use Rattle.replay.proofs.output.numbers.Statement.{statement}
 use Rattle.replay.proofs.output.numbers.Tie as tie
 
 abbrev Inv-loop : tie.InvT-loop
-Inv-loop out₀ at v after p₀ i₀ out p i = i ≡ i
+Inv-loop out₀ at v after p₀ i₀ out p i = i ≤ length v
 
 abbrev μ-loop : tie.MeasureT-loop
 μ-loop out₀ at v after p₀ i₀ out p i = length v - i

@@ -1,14 +1,13 @@
 -- `replay::parse::name` is safe and ends.
 -- Assumes nothing.
-use Prim.Native.Nat.{_-_}
-use mathlib.Core.Path.{_≡_}
+use Prim.Native.Nat.{_≤_, _-_}
 use lib.ListN.{length}
 use borrow.Author.Needs.{needs}
 use Rattle.replay.proofs.parse.name.Statement.{statement}
 use Rattle.replay.proofs.parse.name.Tie as tie
 
 abbrev Inv-loop : tie.InvT-loop
-Inv-loop line from i₀ key₀ i key = i ≡ i
+Inv-loop line from i₀ key₀ i key = from ≤ i
 
 abbrev μ-loop : tie.MeasureT-loop
 μ-loop line from i₀ key₀ i key = length line - i

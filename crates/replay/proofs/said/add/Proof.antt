@@ -1,14 +1,13 @@
 -- `replay::said::add` is safe and ends.
 -- Assumes nothing.
-use Prim.Native.Nat.{_-_}
-use mathlib.Core.Path.{_≡_}
+use Prim.Native.Nat.{_≤_, _-_}
 use lib.ListN.{length}
 use borrow.Author.Needs.{needs}
 use Rattle.replay.proofs.said.add.Statement.{statement}
 use Rattle.replay.proofs.said.add.Tie as tie
 
 abbrev Inv-loop : tie.InvT-loop
-Inv-loop s r₀ n₀ i₀ r n i = i ≡ i
+Inv-loop s r₀ n₀ i₀ r n i = i ≤ length s
 
 abbrev μ-loop : tie.MeasureT-loop
 μ-loop s r₀ n₀ i₀ r n i = length s - i

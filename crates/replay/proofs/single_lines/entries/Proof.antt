@@ -1,13 +1,12 @@
 -- `replay::single_lines::entries` is safe and ends.
 -- Assumes nothing.
-use Prim.Native.Nat.{_-_}
-use mathlib.Core.Path.{_≡_}
+use Prim.Native.Nat.{_≤_, _-_}
 use borrow.Author.Needs.{needs}
 use Rattle.replay.proofs.single_lines.entries.Statement.{statement}
 use Rattle.replay.proofs.single_lines.entries.Tie as tie
 
 abbrev Inv-loop : tie.InvT-loop
-Inv-loop line at places₀ lengths₀ addresses₀ n₀ next₀ places lengths addresses n next = n ≡ n
+Inv-loop line at places₀ lengths₀ addresses₀ n₀ next₀ places lengths addresses n next = n ≤ 1100
 
 abbrev μ-loop : tie.MeasureT-loop
 μ-loop line at places₀ lengths₀ addresses₀ n₀ next₀ places lengths addresses n next = 1100 - n
