@@ -1,6 +1,5 @@
 // Run: steps until enough are accepted, or one is not, or one is Debug. The state is tested once: a step keeps it valid.
-// The registers stay where they are: each step stores two numbers into them, the second into PC, the sixth. A single step is a run
-// of one.
+// The registers stay where they are: each step stores two numbers into them, the second into PC. A single step is a run of one.
 use crate::Ran;
 use crate::State;
 use crate::Stepped;
@@ -13,6 +12,7 @@ use base::Refusal;
 use machine::StepAnswer;
 ghost use mathlib.Core.Path.{_≡_};
 ghost use Prim.Native.Nat.{_≤_};
+ghost use Rattle.base.specs.Told.{no};
 ghost use Rattle.machine.specs.Answers.{answered};
 ghost use Rattle.memory.specs.Bytes.{lent};
 ghost use Rattle.journal.specs.States.{whole};
@@ -38,17 +38,24 @@ fn counts(a: StepAnswer) -> u32
     if is_accepted(a) { 1 } else { 0 }
 }
 
+// What becomes of a state that is not valid.
+fn no_run(s: State) -> Ran
+    ensures { λ r. ⌜ (answered (r .answer) ≡ no 1) × (r .count ≡ 0) × (r .state ≡ s) ⌝ }
+{
+    Ran {
+        answer: StepAnswer::Refused(Refusal::BadState),
+        count: 0,
+        state: s,
+    }
+}
+
 // At most n steps: 1 first, then the last step's answer, Continue for n = 0; and how many were accepted.
 pub fn run(s: State, mem: &mut [u8], dev: &mut [u8], journal: &mut [u8], n: u32) -> Ran
     ensures { λ r.
         ⌜ ran (answered (r .answer)) (r .count) (whole (r .state) (lent (now (mem .exit)) (now (dev .exit))) (now (journal .exit))) ≡ run n (whole s (lent (now (mem .entry)) (now (dev .entry))) (now (journal .entry))) ⌝ }
 {
     if !valid(s, dev, journal) {
-        return Ran {
-            answer: StepAnswer::Refused(Refusal::BadState),
-            count: 0,
-            state: s,
-        };
+        return no_run(s);
     }
     let m = s.machine;
     let mode = m.mode;
@@ -64,9 +71,7 @@ pub fn run(s: State, mem: &mut [u8], dev: &mut [u8], journal: &mut [u8], n: u32)
     while count < n {
         let q = turn(&g, ring, mode, map, mem, dev, journal, d);
         let r = q.register;
-        let i = instruction::register_code(r) as usize;
-        g[i] = q.value;
-        g[5] = q.pc;
+        machine::store(&mut g, r, q.value, q.pc);
         ring = q.ring;
         let answer = q.answer;
         if !goes_on(answer) {

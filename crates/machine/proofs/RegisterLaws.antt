@@ -56,7 +56,3 @@ put-apart s v w = ap regs (set-comm (s .value) 3 5 v w (λ e. omega (arith, e)))
 pub get-as : (g : List ℕ) (r : Register) → get (regs g) r ≡ getD g (registerCode r) 0
 unfolding get
 get-as g r = refl
-
-pub put-as : (g : List ℕ) (r : Register) (v : ℕ) → put (regs g) r v ≡ regs (set g (registerCode r) v)
-unfolding put
-put-as g r v = refl

@@ -22,6 +22,7 @@ pub use steps::move_of;
 pub use steps::plan_of;
 pub use steps::plan_step;
 pub use steps::step;
+pub use steps::store;
 
 // A, B, C, M, SP, PC, BP, FLAGS.
 pub struct Registers {

@@ -1,5 +1,5 @@
-// Registers by name, and the bits of FLAGS. The eight numbers are lent, and none of this copies them: a number stored into an array,
-// and the array then read back whole, wait for each other, on every step.
+// Registers by name, and the bits of FLAGS. The eight numbers are lent, and no step stores one of them and then
+// copies all: a wide read waits for a narrow store before it.
 use instruction::Operand;
 use instruction::Register;
 ghost use mathlib.Core.Path.{_≡_};

@@ -20,8 +20,10 @@ use memory::WordRead;
 ghost use mathlib.Core.Path.{_≡_};
 ghost use Rattle.memory.specs.Bytes.{lent};
 ghost use Rattle.machine.specs.Answers.{answered};
-ghost use Rattle.machine.specs.Moves.{Moves};
+ghost use Rattle.instruction.specs.declared.Register.the-variants.{PC};
+ghost use Rattle.machine.specs.Moves.{Moves, regs};
 ghost use Rattle.machine.specs.Plan.{planned, plan};
+ghost use Rattle.machine.specs.Registers.{put};
 ghost use Rattle.machine.specs.States.{machine};
 ghost use Rattle.machine.specs.Step.{after, committed, step};
 
@@ -40,16 +42,23 @@ pub fn move_of(s: &[u16; 8], mode: Mode, map: Map, mem: &[u8], dev: &[u8]) -> Mo
     }
 }
 
-// The same, with the registers after it: one has its value, and PC, the sixth, its own.
+// Stores what a step moves: one register's value, and then that of PC, the sixth.
+pub fn store(s: &mut [u16; 8], r: Register, value: u16, pc: u16)
+    ensures { λ _. ⌜ regs (now (s .exit)) ≡ put (put (regs (now (s .entry))) r value) PC pc ⌝ }
+{
+    let i = instruction::register_code(r) as usize;
+    s[i] = value;
+    s[5] = pc;
+}
+
+// The same as `move_of`, with the registers after it.
 pub fn plan_of(s: Registers, mode: Mode, map: Map, mem: &[u8], dev: &[u8]) -> Plan
     ensures { λ p. ⌜ planned p ≡ plan (machine s mode map) (lent (now (mem .entry)) (now (dev .entry))) ⌝ }
 {
     let mut g = s.value;
     let m = move_of(&g, mode, map, mem, dev);
     let r = m.register;
-    let i = instruction::register_code(r) as usize;
-    g[i] = m.value;
-    g[5] = m.pc;
+    store(&mut g, r, m.value, m.pc);
     let answer = m.answer;
     let changes = m.changes;
     Plan {

@@ -4,7 +4,7 @@ use mathlib.Core.Bool.{true, false}
 use Prim.Native.Nat.{_-_, _≤_}
 use denote.Ref.{now}
 use native.Mathlib.Omega.{arith}
-use lib.ListN.{length, set}
+use lib.ListN.{length}
 use borrow.Author.Tests.{not-true, not-false}
 use Rattle.machine.specs.Answers.{answered}
 use Rattle.memory.specs.Bytes.{lent}
@@ -30,6 +30,9 @@ abbrev μ-loop : tie.MeasureT-loop
 valid-requires : tie.Need-valid-requires Inv-loop μ-loop
 valid-requires c κs = search needs
 
+no-run-requires : tie.Need-no-run-requires Inv-loop μ-loop
+no-run-requires c κs = search needs
+
 same-length : tie.Need-same-length Inv-loop μ-loop
 same-length c = search needs
 
@@ -38,36 +41,28 @@ same-length-2 c = search needs
 
 returns : tie.Need-returns Inv-loop μ-loop
 unfolding run
-returns c = rw (sym (c .before .valid .ensures) ∙ not-true _ (c .if1 .taken))
+returns c =
+    let f : valid (c .before .before .before .before .before .before .before .before .args .s) (now (c .before .before .before .before .before .before .before .before .args .dev)) (now (c .before .before .before .before .before .before .before .before .args .journal)) ≡ false = sym (c .before .before .valid .ensures) ∙ not-true _ (c .before .if1 .taken) in
+    rw (f, c .no-run .ensures .0, c .no-run .ensures .1, c .no-run .ensures .2)
 
 room-requires : tie.Need-room-requires Inv-loop μ-loop
 room-requires c κs = search needs
 
 loop-holds : tie.Need-loop-holds Inv-loop μ-loop
 loop-holds c =
-    let x = c .before .before .before .before .before .before .before .before .before .before .before .before .before .before .args in
-    let f : valid (x .s) (now (x .dev)) (now (x .journal)) ≡ true = sym (c .before .before .before .before .before .before .before .before .valid .ensures) ∙ not-false _ (c .before .before .before .before .before .before .before .if1 .left) in
+    let l = c .before .before .before .before .before .before .before in
+    let x = l .before .before .before .before .before .before .before .args in
+    let f : valid (x .s) (now (x .dev)) (now (x .journal)) ≡ true = sym (l .before .valid .ensures) ∙ not-false _ (l .if1 .left) in
     (omega arith, refl, refl, refl, f, begun (x .n) (whole (x .s) (lent (now (x .mem)) (now (x .dev))) (now (x .journal))))
 
 turn-requires : tie.Need-turn-requires Inv-loop μ-loop
 turn-requires c κs =
-    let h = c .before .before .before .before .before .loop in
-    (c .before .before .before .before .before .before .before .before .room .ensures ∙ sym (room-length (h .journal) _ (h .inv .3)), h .inv .4)
+    let l = c .before .before .before .before .before in
+    let h = l .loop in
+    (l .before .before .before .room .ensures ∙ sym (room-length (h .journal) _ (h .inv .3)), h .inv .4)
 
-register-code-requires : tie.Need-register-code-requires Inv-loop μ-loop
-register-code-requires c κs = search needs
-
-cast-i : tie.Need-cast-i Inv-loop μ-loop
-cast-i c = omega (arith, c .register-code .ensures .1)
-
-mul-g : tie.Need-mul-g Inv-loop μ-loop
-mul-g c = search needs
-
-array-write-g : tie.Need-array-write-g Inv-loop μ-loop
-array-write-g c = search needs
-
-array-write-g-2 : tie.Need-array-write-g-2 Inv-loop μ-loop
-array-write-g-2 c = search needs
+store-requires : tie.Need-store-requires Inv-loop μ-loop
+store-requires c κs = search needs
 
 goes-on-requires : tie.Need-goes-on-requires Inv-loop μ-loop
 goes-on-requires c κs = search needs
@@ -75,66 +70,83 @@ goes-on-requires c κs = search needs
 counts-requires : tie.Need-counts-requires Inv-loop μ-loop
 counts-requires c κs = search needs
 
-add-t44 : tie.Need-add-t44 Inv-loop μ-loop
-add-t44 c = omega (arith, c .counts .ensures .1, c .before .before .before .before .before .before .before .before .before .before .before .before .before .before .before .before .loop-test .taken, c .before .before .before .before .before .before .before .before .before .before .before .before .before .before .before .before .before .before .before .before .before .before .before .before .before .before .before .before .before .before .before .before .fits .n)
+add-t37 : tie.Need-add-t37 Inv-loop μ-loop
+add-t37 c =
+    let l = c .before .before .before .before .before .before .before .before .before .before .before .before .before .before .before .before .before in
+    omega (arith, c .counts .ensures .1, l .loop-test .taken, l .before .before .before .before .before .before .before .before .before .before .before .before .before .before .before .before .fits .n)
 
 state-of-requires : tie.Need-state-of-requires Inv-loop μ-loop
 state-of-requires c κs = search needs
 
 same-length-3 : tie.Need-same-length-3 Inv-loop μ-loop
-same-length-3 c = c .before .before .before .before .before .before .before .before .before .before .before .before .turn .kept .1 .1 .1 .1 .0 ∙ c .before .before .before .before .before .before .before .before .before .before .before .before .before .before .before .before .before .before .loop .inv .1
+same-length-3 c =
+    let t = c .before .before .before .before .before .before .before .before .before .before .before .before .before in
+    t .turn .kept .1 .1 .1 .1 .0 ∙ t .before .before .before .before .before .before .loop .inv .1
 
 same-length-4 : tie.Need-same-length-4 Inv-loop μ-loop
-same-length-4 c = c .before .before .before .before .before .before .before .before .before .before .before .before .turn .kept .1 .1 .1 .1 .1 .0 ∙ c .before .before .before .before .before .before .before .before .before .before .before .before .before .before .before .before .before .before .loop .inv .2
+same-length-4 c =
+    let t = c .before .before .before .before .before .before .before .before .before .before .before .before .before in
+    t .turn .kept .1 .1 .1 .1 .1 .0 ∙ t .before .before .before .before .before .before .loop .inv .2
 
 same-length-5 : tie.Need-same-length-5 Inv-loop μ-loop
-same-length-5 c = c .before .before .before .before .before .before .before .before .before .before .before .before .turn .kept .1 .1 .1 .1 .1 .1 .0 ∙ c .before .before .before .before .before .before .before .before .before .before .before .before .before .before .before .before .before .before .loop .inv .3
+same-length-5 c =
+    let t = c .before .before .before .before .before .before .before .before .before .before .before .before .before in
+    t .turn .kept .1 .1 .1 .1 .1 .1 .0 ∙ t .before .before .before .before .before .before .loop .inv .3
 
 returns-2 : tie.Need-returns-2 Inv-loop μ-loop
 unfolding run
 returns-2 c =
-    let x = c .before .before .before .before .before .before .before .before .before .before .before .before .before .before .before .before .before .before .before .before .before .before .before .before .before .before .before .before .before .before .before .before .before .args in
+    let t = c .before .before .before .before .before .before .before .before .before .before .before .before .before in
+    let l = t .before .before .before .before .before .before in
+    let x = l .before .before .before .before .before .before .before .before .before .before .before .before .before .before .before .args in
     let mode = x .s .machine .mode in
     let map = x .s .machine .map in
     let v = whole (x .s) (lent (now (x .mem)) (now (x .dev))) (now (x .journal)) in
-    let h = c .before .before .before .before .before .before .before .before .before .before .before .before .before .before .before .before .before .before .loop in
+    let h = l .loop in
     let w = whole (stateOf (goingFrom (h .g) (h .ring)) mode map) (lent (h .mem) (h .dev)) (h .journal) in
-    let q = c .before .before .before .before .before .before .before .before .before .before .before .before .turn in
+    let q = t .turn in
     let a = answered (q .result .answer) in
     let of : Going → Whole = λ y. whole (stateOf y mode map) (lent (q .last .1 .1 .1 .1 .0) (q .last .1 .1 .1 .1 .1 .0)) (q .last .1 .1 .1 .1 .1 .1 .0) in
-    let i = c .before .before .before .before .before .register-code .result in
-    let u = of (goingFrom (set (set (h .g) i (q .result .value)) 5 (q .result .pc)) (q .result .ring)) in
-    let z = stored (h .g) (q .result) i (c .before .before .before .before .before .register-code .ensures .0) in
-    let t : after a u ≡ step w = ap (λ (y : Going). after a (of y)) z ∙ q .ensures .0 in
-    let f : valid (x .s) (now (x .dev)) (now (x .journal)) ≡ true = sym (c .before .before .before .before .before .before .before .before .before .before .before .before .before .before .before .before .before .before .before .before .before .before .before .before .before .before .before .valid .ensures) ∙ not-false _ (c .before .before .before .before .before .before .before .before .before .before .before .before .before .before .before .before .before .before .before .before .before .before .before .before .before .before .if1 .left) in
+    let put = c .before .before .before .before .before .store in
+    let u = of (goingFrom (put .last .0) (q .result .ring)) in
+    let z = stored (h .g) (put .last .0) (q .result) (put .ensures) in
+    let e : after a u ≡ step w = ap (λ (y : Going). after a (of y)) z ∙ q .ensures .0 in
+    let more = t .before .before .before .before .before .loop-test .taken in
+    let f : valid (x .s) (now (x .dev)) (now (x .journal)) ≡ true = sym (l .before .before .before .before .before .before .before .before .before .valid .ensures) ∙ not-false _ (l .before .before .before .before .before .before .before .before .if1 .left) in
     let g : goesOn a ≡ false = sym (c .before .before .before .goes-on .ensures) ∙ not-true _ (c .before .before .if2 .taken) in
-    let e = ends (x .n) (h .count) w v (h .inv .5) (c .before .before .before .before .before .before .before .before .before .before .before .before .before .before .before .before .before .loop-test .taken) a u t g in
-    rw (f, c .state-of .ensures, c .before .counts .ensures .0) e
+    rw (f, c .state-of .ensures, c .before .counts .ensures .0) (ends (x .n) (h .count) w v (h .inv .5) more a u e g)
 
 add-count : tie.Need-add-count Inv-loop μ-loop
-add-count c = omega (arith, c .before .before .before .before .before .before .before .before .before .before .before .before .before .before .before .loop-test .taken, c .before .before .before .before .before .before .before .before .before .before .before .before .before .before .before .before .before .before .before .before .before .before .before .before .before .before .before .before .before .before .before .fits .n)
+add-count c =
+    let l = c .before .before .before .before .before .before .before .before .before .before .before .before .before .before .before .before in
+    omega (arith, l .loop-test .taken, l .before .before .before .before .before .before .before .before .before .before .before .before .before .before .before .before .fits .n)
 
 loop-less : tie.Need-loop-less Inv-loop μ-loop
-loop-less c = omega (arith, c .before .before .before .before .before .before .before .before .before .before .before .before .before .before .before .loop-test .taken)
+loop-less c =
+    let l = c .before .before .before .before .before .before .before .before .before .before .before .before .before .before .before .before in
+    omega (arith, l .loop-test .taken)
 
 loop-again : tie.Need-loop-again Inv-loop μ-loop
 loop-again c =
-    let x = c .before .before .before .before .before .before .before .before .before .before .before .before .before .before .before .before .before .before .before .before .before .before .before .before .before .before .before .before .before .before .before .args in
+    let t = c .before .before .before .before .before .before .before .before .before .before .before in
+    let l = t .before .before .before .before .before .before in
+    let x = l .before .before .before .before .before .before .before .before .before .before .before .before .before .before .before .args in
     let mode = x .s .machine .mode in
     let map = x .s .machine .map in
     let v = whole (x .s) (lent (now (x .mem)) (now (x .dev))) (now (x .journal)) in
-    let h = c .before .before .before .before .before .before .before .before .before .before .before .before .before .before .before .before .loop in
+    let h = l .loop in
     let w = whole (stateOf (goingFrom (h .g) (h .ring)) mode map) (lent (h .mem) (h .dev)) (h .journal) in
-    let q = c .before .before .before .before .before .before .before .before .before .before .turn in
+    let q = t .turn in
     let a = answered (q .result .answer) in
     let of : Going → Whole = λ y. whole (stateOf y mode map) (lent (q .last .1 .1 .1 .1 .0) (q .last .1 .1 .1 .1 .1 .0)) (q .last .1 .1 .1 .1 .1 .1 .0) in
-    let i = c .before .before .before .register-code .result in
-    let u = of (goingFrom (set (set (h .g) i (q .result .value)) 5 (q .result .pc)) (q .result .ring)) in
-    let z = stored (h .g) (q .result) i (c .before .before .before .register-code .ensures .0) in
-    let t : after a u ≡ step w = ap (λ (y : Going). after a (of y)) z ∙ q .ensures .0 in
+    let put = c .before .before .before .store in
+    let u = of (goingFrom (put .last .0) (q .result .ring)) in
+    let z = stored (h .g) (put .last .0) (q .result) (put .ensures) in
+    let e : after a u ≡ step w = ap (λ (y : Going). after a (of y)) z ∙ q .ensures .0 in
+    let more = t .before .before .before .before .before .loop-test .taken in
     let g : goesOn a ≡ true = sym (c .before .goes-on .ensures) ∙ not-false _ (c .if2 .left) in
     let k = ap (λ (y : Going). valid (stateOf y mode map) (q .last .1 .1 .1 .1 .1 .0) (q .last .1 .1 .1 .1 .1 .1 .0)) z ∙ q .ensures .1 in
-    (omega (arith, c .before .before .before .before .before .before .before .before .before .before .before .before .before .before .before .loop-test .taken), q .kept .1 .1 .1 .1 .0 ∙ h .inv .1, q .kept .1 .1 .1 .1 .1 .0 ∙ h .inv .2, q .kept .1 .1 .1 .1 .1 .1 .0 ∙ h .inv .3, k, goes-on (x .n) (h .count) w v (h .inv .5) (c .before .before .before .before .before .before .before .before .before .before .before .before .before .before .before .loop-test .taken) a u t g)
+    (omega (arith, more), q .kept .1 .1 .1 .1 .0 ∙ h .inv .1, q .kept .1 .1 .1 .1 .1 .0 ∙ h .inv .2, q .kept .1 .1 .1 .1 .1 .1 .0 ∙ h .inv .3, k, goes-on (x .n) (h .count) w v (h .inv .5) more a u e g)
 
 state-of-requires-2 : tie.Need-state-of-requires-2 Inv-loop μ-loop
 state-of-requires-2 c κs = search needs
@@ -151,13 +163,14 @@ same-length-8 c = c .before .before .loop .inv .3
 returns-3 : tie.Need-returns-3 Inv-loop μ-loop
 unfolding run
 returns-3 c =
-    let x = c .before .before .before .before .before .before .before .before .before .before .before .before .before .before .before .before .before .args in
+    let l = c .before .before in
+    let x = l .before .before .before .before .before .before .before .before .before .before .before .before .before .before .before .args in
     let mode = x .s .machine .mode in
     let map = x .s .machine .map in
     let v = whole (x .s) (lent (now (x .mem)) (now (x .dev))) (now (x .journal)) in
-    let h = c .before .before .loop in
+    let h = l .loop in
     let w = whole (stateOf (goingFrom (h .g) (h .ring)) mode map) (lent (h .mem) (h .dev)) (h .journal) in
-    let f : valid (x .s) (now (x .dev)) (now (x .journal)) ≡ true = sym (c .before .before .before .before .before .before .before .before .before .before .before .valid .ensures) ∙ not-false _ (c .before .before .before .before .before .before .before .before .before .before .if1 .left) in
+    let f : valid (x .s) (now (x .dev)) (now (x .journal)) ≡ true = sym (l .before .before .before .before .before .before .before .before .before .valid .ensures) ∙ not-false _ (l .before .before .before .before .before .before .before .before .if1 .left) in
     rw (f, c .state-of2 .ensures) (ended (x .n) (h .count) w v (h .inv .5) (omega (arith, c .before .loop-test .left)))
 
 pub run-spec : {M : Type 1} → statement M
@@ -167,20 +180,17 @@ run-spec =
     Inv-loop
     μ-loop
     valid-requires
+    no-run-requires
     same-length
     same-length-2
     returns
     room-requires
     loop-holds
     turn-requires
-    register-code-requires
-    cast-i
-    mul-g
-    array-write-g
-    array-write-g-2
+    store-requires
     goes-on-requires
     counts-requires
-    add-t44
+    add-t37
     state-of-requires
     same-length-3
     same-length-4

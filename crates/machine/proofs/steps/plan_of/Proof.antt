@@ -1,5 +1,8 @@
--- What is moved is put into the registers. Assumes nothing.
-use Rattle.machine.specs.Registers.{put}
+-- What is moved is stored into the registers. Assumes nothing.
+use mathlib.Core.Path.{ap, _∙_}
+use Rattle.machine.specs.declared.Registers.{Registers}
+use Rattle.machine.specs.Answers.{answered}
+use Rattle.machine.specs.Plan.{plans}
 use borrow.Author.Needs.{needs}
 use Rattle.machine.proofs.steps.plan_of.Statement.{statement}
 use Rattle.machine.proofs.steps.plan_of.Tie as tie
@@ -7,33 +10,13 @@ use Rattle.machine.proofs.steps.plan_of.Tie as tie
 move-of-requires : tie.Need-move-of-requires
 move-of-requires c κs = search needs
 
-register-code-requires : tie.Need-register-code-requires
-register-code-requires c κs = search needs
-
-cast-i : tie.Need-cast-i
-cast-i c = search needs
-
-mul-g : tie.Need-mul-g
-mul-g c = search needs
-
-array-write-g : tie.Need-array-write-g
-array-write-g c = search needs
-
-array-write-g-2 : tie.Need-array-write-g-2
-array-write-g-2 c = search needs
+store-requires : tie.Need-store-requires
+store-requires c κs = search needs
 
 returns : tie.Need-returns
-unfolding put
-returns c = rw (c .register-code .ensures .0) (c .before .move-of .ensures)
+returns c =
+    let m = c .before .before .move-of in
+    ap (λ (t : Registers). plans (answered (m .result .answer)) t (m .result .changes)) (c .store .ensures) ∙ m .ensures
 
 pub plan-of-spec : {M : Type 1} → statement M
-plan-of-spec =
-    tie.close
-    (tie.spec
-    move-of-requires
-    register-code-requires
-    cast-i
-    mul-g
-    array-write-g
-    array-write-g-2
-    returns)
+plan-of-spec = tie.close (tie.spec move-of-requires store-requires returns)
