@@ -6,9 +6,8 @@ use Rattle.instruction.specs.declared.Register.the-variants.{PC}
 use Rattle.machine.specs.Moves.{regs}
 use Rattle.machine.specs.Registers.{put}
 use Rattle.machine.specs.declared.Registers.{Registers}
-use Rattle.journal.specs.declared.steps.Going.{Going}
 use Rattle.journal.specs.declared.steps.Turned.{Turned}
-use Rattle.journal.specs.Turns.{goingFrom, goingAfter}
+use Rattle.journal.specs.Turns.{Going, goingFrom, goingAfter}
 
 pub stored : (g s : List ℕ) (t : Turned) → regs s ≡ put (put (regs g) (t .register) (t .value)) PC (t .pc) → goingFrom s (t .ring) ≡ goingAfter g t
 stored g s t e =

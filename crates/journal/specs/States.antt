@@ -5,12 +5,9 @@ use mathlib.Core.List.{List}
 use lib.Dec.{ltb, leb, eqb}
 use Rattle.machine.specs.States as machine
 use Rattle.machine.specs.declared.Machine.{Machine}
-use Rattle.machine.specs.declared.Mode.{Mode}
-use Rattle.map.specs.declared.Map.{Map}
 use Rattle.memory.specs.Bytes.{Lent}
 use Rattle.records.specs.Slots.{room}
 use Rattle.journal.specs.declared.State.{State}
-use Rattle.journal.specs.declared.steps.Going.{Going}
 
 pub record Whole : Type 0 where
   pub state : State
@@ -22,10 +19,6 @@ whole s b j = record { state = s; bytes = b; journal = j }
 
 abbrev pub state : Machine → ℕ → ℕ → State
 state m next held = record { machine = m; next = next; held = held }
-
--- the state of what changes from step to step, with the mode and the tables that stay
-abbrev pub stateOf : Going → Mode → Map → State
-stateOf g mode map = state (record { registers = g .registers; mode = mode; map = map }) (g .next) (g .held)
 
 -- next < D (or next = 0 = D)
 unfoldable pub nextIn : ℕ → ℕ → Bool

@@ -5,9 +5,22 @@ use Prim.Native.Nat.{ℕ}
 use Rattle.instruction.specs.declared.Register.the-variants.{PC}
 use Rattle.machine.specs.Moves.{regs}
 use Rattle.machine.specs.Registers.{put}
-use Rattle.journal.specs.declared.steps.Going.{Going}
+use Rattle.machine.specs.declared.Mode.{Mode}
+use Rattle.machine.specs.declared.Registers.{Registers}
+use Rattle.map.specs.declared.Map.{Map}
+use Rattle.journal.specs.States.{state}
+use Rattle.journal.specs.declared.State.{State}
 use Rattle.journal.specs.declared.steps.Ring.{Ring}
 use Rattle.journal.specs.declared.steps.Turned.{Turned}
+
+pub record Going : Type 0 where
+  pub registers : Registers
+  pub next : ℕ
+  pub held : ℕ
+
+-- it is a state, with the mode and the tables that stay
+abbrev pub stateOf : Going → Mode → Map → State
+stateOf g mode map = state (record { registers = g .registers; mode = mode; map = map }) (g .next) (g .held)
 
 abbrev pub goingFrom : List ℕ → Ring → Going
 goingFrom g r = record { registers = regs g; next = r .next; held = r .held }

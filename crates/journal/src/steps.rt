@@ -19,19 +19,12 @@ ghost use Rattle.machine.specs.Moves.{regs};
 ghost use Rattle.machine.specs.declared.Machine.{Machine};
 ghost use Rattle.memory.specs.Bytes.{lent};
 ghost use Rattle.records.specs.Slots.{room};
-ghost use Rattle.journal.specs.States.{whole, state, valid, stateOf};
-ghost use Rattle.journal.specs.Turns.{goingFrom, goingAfter};
+ghost use Rattle.journal.specs.States.{whole, state, valid};
+ghost use Rattle.journal.specs.Turns.{stateOf, goingFrom, goingAfter};
 ghost use Rattle.journal.specs.Step.{after, isAccepted, replaced, recordOf, advanced, noted, step};
 
-// What changes from step to step, as the definitions have it: tables and mode stay, and a run does not carry them along. The code
-// has eight numbers for it, which stay where they are, and a Ring.
-pub struct Going {
-    pub registers: Registers,
-    pub next: u16,
-    pub held: u16,
-}
-
-// How the journal stands: the slot that the next record goes to, and how many are held.
+// How the journal stands: the slot that the next record goes to, and how many are held. Beside the registers this is all that changes from
+// step to step: tables and mode stay, and a run does not carry them along.
 pub struct Ring {
     pub next: u16,
     pub held: u16,

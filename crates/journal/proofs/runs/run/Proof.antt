@@ -9,10 +9,9 @@ use borrow.Author.Tests.{not-true, not-false}
 use Rattle.machine.specs.Answers.{answered}
 use Rattle.memory.specs.Bytes.{lent}
 use Rattle.journal.specs.declared.State.{State}
-use Rattle.journal.specs.States.{Whole, whole, valid, stateOf}
-use Rattle.journal.specs.declared.steps.Going.{Going}
+use Rattle.journal.specs.States.{Whole, whole, valid}
 use Rattle.journal.specs.Step.{after, step}
-use Rattle.journal.specs.Turns.{goingFrom}
+use Rattle.journal.specs.Turns.{Going, stateOf, goingFrom}
 use Rattle.journal.specs.Run.{goesOn, repeated, run}
 use Rattle.records.proofs.Laws.{room-length}
 use Rattle.journal.proofs.TurnLaws.{stored}

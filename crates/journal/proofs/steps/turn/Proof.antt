@@ -14,9 +14,8 @@ use Rattle.machine.proofs.Laws.{committed-as}
 use Rattle.memory.specs.Bytes.{Lent, lent}
 use Rattle.records.specs.Slots.{room}
 use Rattle.journal.specs.declared.State.{State}
-use Rattle.journal.specs.States.{whole, state, valid, stateOf}
-use Rattle.journal.specs.Turns.{goingFrom, goingAfter}
-use Rattle.journal.specs.declared.steps.Going.{Going}
+use Rattle.journal.specs.States.{whole, state, valid}
+use Rattle.journal.specs.Turns.{Going, stateOf, goingFrom, goingAfter}
 use Rattle.journal.specs.Step.{after, isAccepted, recordOf, advanced, noted}
 use Rattle.journal.proofs.StateLaws.{valid-held, valid-next}
 use Rattle.journal.proofs.TakenLaws.{planOf, step-not, step-made, made-valid}

@@ -8,7 +8,7 @@ use Rattle.machine.specs.Moves.{regs}
 use Rattle.machine.specs.Registers.{get, put}
 use Rattle.machine.specs.declared.Registers.{Registers}
 use Rattle.machine.proofs.RegisterLaws.{get-as, put-get}
-use Rattle.journal.specs.declared.steps.Going.{Going}
+use Rattle.journal.specs.Turns.{Going}
 use borrow.Author.Needs.{needs}
 use Rattle.journal.proofs.steps.unmoved.Statement.{statement}
 use Rattle.journal.proofs.steps.unmoved.Tie as tie
