@@ -4,6 +4,7 @@ use mathlib.Core.Path.{_≡_, refl}
 use mathlib.Core.Bool.{Bool, true, false, _&&_}
 use mathlib.Core.List.{List, [], _∷_, map}
 use native.Mathlib.Omega.{arith}
+use Rattle.base.proofs.Tests.{clash}
 use Rattle.base.specs.Told.{is}
 use Rattle.instruction.specs.declared.Instruction.{Instruction}
 use Rattle.instruction.specs.declared.Instruction.the-variants.{Noop, Mov, MovShift, Arith, ArithRegReg, LdrStr, LdbStb, Cpy, Jmp, CondJmp, Cmp, CallRet}
@@ -29,9 +30,6 @@ decodes (CondJmp (Reg r)) f = register-cjp r
 decodes (CondJmp (Imm v)) f = round-trip (CondJmp (Imm v)) f refl
 decodes (Cmp r o k) f = round-trip (Cmp r o k) f refl
 decodes (CallRet ret address) f = round-trip (CallRet ret address) f refl
-
-clash : {A : Type 0} → false ≡ true → A
-clash e = absurd (let z : _≡_ {A = ℕ} 0 1 = cc in omega arith)
 
 pub all-decode : (ms : List Meant) → allFit ms ≡ true → map decode (map wordOf ms) ≡ map decoded ms
 all-decode [] f = refl

@@ -8,6 +8,7 @@ use native.Mathlib.Omega.{arith}
 use lib.Dec.{eqb, ltb}
 use lib.ListN.{length, set, length-append, length-set}
 use borrow.Author.Tests.{ltb-true, ltb-false, lt-ltb, le-ltb}
+use Rattle.base.proofs.Tests.{both}
 use Rattle.base.specs.Choice.{cond}
 use Rattle.base.specs.Told.{Told, is, no, _>>=_}
 use Rattle.base.specs.Words.{doubled}
@@ -128,17 +129,13 @@ each-then : {A B : Type 0} (P : A → Type 0) (Q : B → Type 0) (x : Told A) (f
 each-then P Q (is a) f p k = k a p
 each-then P Q (no n) f p k = tt
 
-both-true : (a b : Bool) → (a && b) ≡ true → (a ≡ true) × (b ≡ true)
-both-true true b e = (refl, e)
-both-true false b e = absurd (let z : _≡_ {A = ℕ} 0 1 = cc in omega arith)
-
 -- ---- one word, reference or label more, and patching
 
 word-most : (room x : ℕ) (words : List ℕ) → Each (λ (new : List ℕ). length new ≤ min room 32767) (addWord room x words)
 unfolding addWord
 word-most room x words =
     each-chosen (λ (new : List ℕ). length new ≤ min room 32767) (ltb (length words) room && ltb (length words) 32767) (words ++ x ∷ []) 29
-    (λ e. let t = both-true (ltb (length words) room) (ltb (length words) 32767) e in
+    (λ e. let t = both (ltb (length words) room) (ltb (length words) 32767) e in
     omega (arith, ltb-true (length words) room (t .0), ltb-true (length words) 32767 (t .1), length-append words (x ∷ [])))
 
 instruction-most : (strict : Bool) (room : ℕ) (i : Instruction) (words : List ℕ) →

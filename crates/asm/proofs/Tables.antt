@@ -8,6 +8,7 @@ use native.Mathlib.Nat.{le-of-suc-le-suc, not-suc-le-zero}
 use native.Mathlib.Omega.{arith}
 use lib.Dec.{ltb}
 use lib.ListN.{length, getD, set}
+use Rattle.base.proofs.Tests.{clash}
 use Rattle.base.specs.Bytes.{same}
 use Rattle.base.specs.Choice.{cond}
 use Rattle.base.specs.Told.{Told, is, no}
@@ -23,9 +24,6 @@ use Rattle.labels.proofs.NameLaws.{names-within, names-part}
 use Rattle.asm.specs.Labels.{part, entered, define}
 use Rattle.asm.specs.Meaning.{latest, leadsTo}
 use Rattle.asm.proofs.Accepted.{chosen}
-
-clash : {A : Type 0} → true ≡ false → A
-clash e = absurd (let z : _≡_ {A = ℕ} 0 1 = cc in omega arith)
 
 same-swap : (a b : List ℕ) → same a b ≡ same b a
 same-swap a b = go (same a b) (same b a) refl refl
@@ -89,13 +87,13 @@ module _ (text : List ℕ) where
         go true u e f = refl
         go false true e f =
             let same-name : name ≡ own = sym (names-part text name (m .place) (m .length) f) ∙ names-part text own (m .place) (m .length) q in
-            clash (sym (has same-name) ∙ e)
+            clash (sym e ∙ has same-name)
         go false false e f = refl
     replaced (m ∷ ls) (suc i) h q earlier = go (isNamed text name l) (isNamed text name m) refl refl (replaced ls i (le-of-suc-le-suc h) q (λ j k. earlier (suc j) (omega arith)))
       where
         go : (t u : Bool) → isNamed text name l ≡ t → isNamed text name m ≡ u → latest text name (set ls i l) ≡ latest text name (l ∷ ls) →
             cond u (is (m .address)) (latest text name (set ls i l)) ≡ cond t (is (l .address)) (cond u (is (m .address)) (latest text name ls))
-        go true true e f ih = clash (sym f ∙ ap (λ (x : List ℕ). isNamed text x m) (only e) ∙ earlier 0 (omega arith))
+        go true true e f ih = clash (sym (ap (λ (x : List ℕ). isNamed text x m) (only e) ∙ earlier 0 (omega arith)) ∙ f)
         go true false e f ih = ih ∙ ap (λ (b : Bool). cond b (is (l .address)) (latest text name ls)) e
         go false u e f ih =
             ap (λ (x : Told ℕ). cond u (is (m .address)) x) (ih ∙ ap (λ (b : Bool). cond b (is (l .address)) (latest text name ls)) e)

@@ -1,4 +1,5 @@
 pub mod Choice
+pub mod Order
 pub mod Numbers
 pub mod Words
 pub mod Addresses

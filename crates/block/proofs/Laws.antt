@@ -14,7 +14,7 @@ use Rattle.wordbytes.specs.Words.{bytesOf, wordAt, wordsFrom, areBytes}
 use Rattle.wordbytes.proofs.Laws.{length-bytes, length-words, words-back, bytes-pair, are-at, are-rest, bytes-front}
 use Rattle.wordbytes.proofs.Parts.{words-none, words-pair}
 use Rattle.map.proofs.Laws.{few-regions, few-devices}
-use Rattle.map.proofs.Tests.{and-left, and-right}
+use Rattle.base.proofs.Tests.{and-left, and-right}
 use Rattle.map.proofs.KeptLaws.{Eight}
 use Rattle.machine.proofs.StateLaws.{valid-tables}
 use Rattle.journal.specs.States.{state, valid}

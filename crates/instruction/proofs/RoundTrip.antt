@@ -8,6 +8,7 @@ use native.Mathlib.Nat.{mod-eq-of-lt, lt-of-lt-of-le}
 use lib.Pow.{pow-add, pow-mono}
 use lib.Dec.{eqb}
 use borrow.Author.Tests.{ltb-true, lt-ltb}
+use Rattle.base.proofs.Tests.{clash, both}
 use Rattle.base.specs.Told.{is}
 use Rattle.fields.specs.Fields.{fieldOf, placeOf}
 use Rattle.fields.proofs.Laws.{unpacked}
@@ -187,14 +188,6 @@ call-ret-back r n hn =
     let ret : fieldOf w 4 1 ≡ bit r = unpacked w 4 1 11 (bit r) (n % 2048) (omega arith) (omega arith) (omega arith) in
     let address : fieldOf w 5 11 ≡ n = unpacked w 5 11 (11 + bit r % 2 * 16) n 0 (omega arith) (omega arith) (omega arith) in
     low-bits w 11 op ∙ rw (ret, bit-back r, address)
-
-both : (t u : Bool) → (t && u) ≡ true → (t ≡ true) × (u ≡ true)
-both true u e = (refl, e)
-both false true e = (e, refl)
-both false false e = (e, e)
-
-clash : {A : Type 0} → false ≡ true → A
-clash e = absurd (let z : _≡_ {A = ℕ} 0 1 = cc in omega arith)
 
 pub round-trip : (i : Instruction) → fits i ≡ true → decodable i ≡ true → decode (encode i) ≡ is i
 unfolding decode arm arms

@@ -5,7 +5,7 @@ use Prim.Native.Nat.{ℕ, zero, suc, _+_, _-_, _<_, _≤_}
 use native.Mathlib.Omega.{arith}
 use Rattle.base.specs.Choice.{cond}
 use Rattle.base.specs.Told.{Told, is, no}
-use Rattle.map.proofs.Tests.{clash}
+use Rattle.base.proofs.Tests.{clash}
 use Rattle.machine.specs.Answers.{State, Continue, Debug, Stop}
 use Rattle.journal.specs.States.{Whole, validWhole}
 use Rattle.journal.specs.Step.{After, after, step}

@@ -6,7 +6,7 @@ use mathlib.Core.List.{List}
 use lib.Dec.{ltb, leb, eqb}
 use borrow.Author.Tests.{ltb-true, leb-true, eqb-true, lt-ltb, le-ltb, le-leb, lt-leb, eq-eqb, ne-eqb}
 use native.Mathlib.Omega.{arith}
-use Rattle.map.proofs.Tests.{first, second, third}
+use Rattle.base.proofs.Tests.{first, second, third}
 use Rattle.machine.specs.States as machine
 use Rattle.machine.specs.declared.Machine.{Machine}
 use Rattle.records.specs.Slots.{room}

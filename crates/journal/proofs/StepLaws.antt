@@ -8,7 +8,7 @@ use lib.ListN.{length}
 use borrow.Author.Tests.{eqb-true, eqb-false, eq-eqb, ne-eqb}
 use native.Mathlib.Omega.{arith}
 use Rattle.base.specs.Told.{Told, is, no}
-use Rattle.map.proofs.Tests.{clash}
+use Rattle.base.proofs.Tests.{clash}
 use Rattle.machine.specs.Answers as answers
 use Rattle.machine.specs.Plan.{plan}
 use Rattle.machine.specs.Step as machine

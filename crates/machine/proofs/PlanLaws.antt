@@ -5,7 +5,7 @@ use mathlib.Core.Bool.{true}
 use Prim.Native.Nat.{ℕ}
 use lib.ListN.{length}
 use Rattle.base.specs.Told.{Told, is, no}
-use Rattle.map.proofs.Tests.{clash}
+use Rattle.base.proofs.Tests.{clash}
 use Rattle.memory.specs.Bytes.{Lent}
 use Rattle.memory.specs.declared.Changes.the-variants.{Nothing}
 use Rattle.memory.proofs.Decisions.{Sound, byte-sound, decision-sound}

@@ -6,7 +6,7 @@ use Prim.Native.Nat.{ℕ, _+_, _<_, _≤_}
 use native.Mathlib.Omega.{arith}
 use lib.Dec.{leb, ltb}
 use borrow.Author.Tests.{leb-true, leb-false, le-leb, lt-leb, ltb-true, lt-ltb, le-ltb}
-use Rattle.map.proofs.Tests.{and-left, and-right, same, or-pairs}
+use Rattle.base.proofs.Tests.{and-left, and-right, same, or-pairs}
 use Rattle.map.specs.Tables.{any}
 use Rattle.map.specs.Devices.{deviceCovers, coversEither}
 use Rattle.map.specs.declared.Device.{Device}

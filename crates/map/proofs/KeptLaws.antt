@@ -16,7 +16,7 @@ use Rattle.map.specs.Entries.{region, device, withRegion, regionNumber, 
 use Rattle.map.specs.declared.Region.{Region}
 use Rattle.map.specs.declared.Device.{Device}
 use Rattle.map.specs.declared.Map.{Map}
-use Rattle.map.proofs.Tests.{clash, second, third}
+use Rattle.base.proofs.Tests.{clash, second, third}
 use Rattle.map.proofs.SoundLaws.{sound-more, used-more, spare-fewer}
 use Rattle.map.proofs.Entries.{protect-valid, register-12, register-valid}
 use Rattle.map.proofs.Laws.{valid-regions, valid-devices, valid-room}

@@ -18,7 +18,7 @@ use Rattle.map.specs.declared.Region.{Region}
 use Rattle.map.specs.declared.Map.{Map}
 use Rattle.map.specs.declared.Place.{Place}
 use Rattle.map.specs.declared.Place.the-variants.{Linear, Bank, Nowhere}
-use Rattle.map.proofs.Tests.{and-left, and-right, first, second, third}
+use Rattle.base.proofs.Tests.{and-left, and-right, first, second, third}
 use Rattle.map.proofs.PlaceLaws.{SameByte, Within, from-within, from-linear, from-one, from-covered, from-uncovered, from-index}
 
 -- ---- places

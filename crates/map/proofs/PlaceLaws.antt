@@ -16,7 +16,7 @@ use Rattle.map.specs.declared.Device.{Device}
 use Rattle.map.specs.declared.Map.{Map}
 use Rattle.map.specs.declared.Place.{Place}
 use Rattle.map.specs.declared.Place.the-variants.{Linear, Bank, Nowhere}
-use Rattle.map.proofs.Tests.{not-or}
+use Rattle.base.proofs.Tests.{not-or}
 use Rattle.map.proofs.DeviceLaws.{covers-from, covers-to, any-either}
 
 -- the same byte of the same buffer

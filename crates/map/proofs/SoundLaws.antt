@@ -9,7 +9,7 @@ use borrow.Author.Tests.{not-true}
 use lib.ListN.{length, getD, set, take, drop}
 use lib.Seq.{drop-cons, take-suc-set, drop-set-lt}
 use Rattle.map.specs.Tables.{any, sound}
-use Rattle.map.proofs.Tests.{and-left, and-right, or-left, or-right}
+use Rattle.base.proofs.Tests.{and-left, and-right, or-left, or-right}
 
 module _ {A : Type 0} where
   any-more : (test : A → Bool) (l : List A) (x : A) → any test l ≡ false → test x ≡ false → any test (l ++ (x ∷ [])) ≡ false

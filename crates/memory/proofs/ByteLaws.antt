@@ -12,7 +12,7 @@ use Rattle.base.specs.Choice.{cond}
 use Rattle.map.specs.Places.{somewhere}
 use Rattle.map.specs.declared.Place.{Place}
 use Rattle.map.specs.declared.Place.the-variants.{Linear, Bank, Nowhere}
-use Rattle.map.proofs.Tests.{clash}
+use Rattle.base.proofs.Tests.{clash}
 use Rattle.map.proofs.PlaceLaws.{SameByte, Within}
 use Rattle.map.proofs.Laws.{linear-somewhere, bank-somewhere, nowhere-not}
 use Rattle.memory.specs.Bytes.{Lent, lent, answered, get, put}

@@ -14,7 +14,7 @@ use Rattle.map.specs.Regions.{regionsOverlap, usedRegions}
 use Rattle.map.specs.Valid.{valid}
 use Rattle.map.specs.Entries.{region, regionMap}
 use Rattle.map.specs.declared.Map.{Map}
-use Rattle.map.proofs.Tests.{first, second, third}
+use Rattle.base.proofs.Tests.{first, second, third}
 use Rattle.map.proofs.Laws.{valid-length, region-last}
 use Rattle.map.proofs.KeptLaws.{Eight, eight-region, region-kept}
 use Rattle.memory.specs.Bytes.{Lent}

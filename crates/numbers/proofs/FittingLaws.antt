@@ -4,7 +4,7 @@ use mathlib.Core.Path.{_≡_, sym, ap, _∙_}
 use mathlib.Core.Bool.{true}
 use lib.Dec.{ltb}
 use borrow.Author.Tests.{ltb-true}
-use Rattle.map.proofs.Tests.{first, second, third}
+use Rattle.base.proofs.Tests.{first, second, third}
 use Rattle.asm.specs.Assemble.{Report, counts}
 use Rattle.numbers.specs.Answers.{fitting}
 

@@ -10,6 +10,7 @@ use mathlib.Core.List.{List, [], _∷_}
 use mathlib.Core.Path.{_∙_, _≡_, ap, refl, sym}
 use native.Mathlib.Numerals.{add-one}
 use native.Mathlib.Omega.{arith}
+use Rattle.base.proofs.Tests.{and-left, and-right}
 use Rattle.base.specs.Choice.{cond}
 use Rattle.reader.specs.Reader.{afterLine, cleanAt, isAscii, lineAt, numbered}
 use Rattle.text.proofs.LineLaws.{line-at}
@@ -57,16 +58,6 @@ module _ (s : List ℕ) (i : ℕ) where
   pub ascii-end : length s ≤ i → isAscii (drop i s) ≡ true
   unfolding isAscii
   ascii-end h = rw drop-of-length-le
-
--- what a conjunction says
-and-left : (t u : Bool) → (t && u) ≡ true → t ≡ true
-and-left true u e = refl
-and-left false u e = e
-
-and-right : (t u : Bool) → (t && u) ≡ true → u ≡ true
-and-right true u e = e
-and-right false true e = refl
-and-right false false e = e
 
 -- the first line of a list, where it is clean: what is found in all is found after it, counting one more
 past-byte : (n x : ℕ) (xs : List ℕ) (ends : Bool) → eqb x 10 ≡ ends → let k = cond (not ends) (suc (run notEnd xs)) 0 in

@@ -15,7 +15,7 @@ use Rattle.journal.proofs.StepLaws.{step-kept}
 use Rattle.journal.proofs.BackLaws.{back-kept, forget-refused}
 use Rattle.host.specs.Host.{setNumber, setState, protectNumber, protectState, registerNumber, registerState, loadNumber, begins}
 use Rattle.host.proofs.Laws.{set-refused, protect-refused, register-refused, load-refused}
-use Rattle.map.proofs.Tests.{and-left}
+use Rattle.base.proofs.Tests.{and-left}
 use Rattle.block.specs.Block.{isBlock, packed, unpacked}
 use Rattle.block.proofs.Laws.{pack-unpack}
 use Rattle.numbers.specs.Answers.{stepCode}

@@ -9,6 +9,7 @@ use lib.Seq.{take-all}
 use borrow.Author.Tests.{ltb-true}
 use native.Mathlib.Nat.{mod-add-div}
 use native.Mathlib.Omega.{arith}
+use Rattle.base.proofs.Tests.{both}
 use Rattle.wordbytes.specs.Words.{wordBytes, bytesOf, wordsFrom, wordsIn, areBytes}
 
 pub length-bytes : (ws : List ℕ) → length (bytesOf ws) ≡ 2 * length ws
@@ -38,10 +39,6 @@ words-in-back ws =
 
 -- ---- bytes, from the words that they make
 
-and-true : (t u : Bool) → (t && u) ≡ true → (t ≡ true) × (u ≡ true)
-and-true true u e = (refl, e)
-and-true false u e = let z : _≡_ {A = ℕ} 0 1 = cc in absurd (omega arith)
-
 low-back : (a b : ℕ) → a < 256 → (a + 256 * b) % 256 ≡ a
 low-back a b h = omega arith
 
@@ -51,14 +48,14 @@ high-back a b h = omega arith
 pub are-at : (l : List ℕ) (i : ℕ) → areBytes l ≡ true → getD l i 0 < 256
 unfolding areBytes
 are-at [] i t = omega arith
-are-at (x ∷ l) zero t = ltb-true x 256 (and-true (ltb x 256) (areBytes l) t .0)
-are-at (x ∷ l) (suc i) t = are-at l i (and-true (ltb x 256) (areBytes l) t .1)
+are-at (x ∷ l) zero t = ltb-true x 256 (both (ltb x 256) (areBytes l) t .0)
+are-at (x ∷ l) (suc i) t = are-at l i (both (ltb x 256) (areBytes l) t .1)
 
 pub are-rest : (n : ℕ) (l : List ℕ) → areBytes l ≡ true → areBytes (drop n l) ≡ true
 unfolding areBytes
 are-rest zero l t = t
 are-rest (suc n) [] t = t
-are-rest (suc n) (x ∷ l) t = are-rest n l (and-true (ltb x 256) (areBytes l) t .1)
+are-rest (suc n) (x ∷ l) t = are-rest n l (both (ltb x 256) (areBytes l) t .1)
 
 -- n words of a list of bytes are its first 2n, and all of it where it has no more
 pub bytes-front : (n : ℕ) (l : List ℕ) → 2 * n ≤ length l → areBytes l ≡ true → bytesOf (wordsFrom n l) ≡ take (2 * n) l

@@ -3,7 +3,7 @@ use Prim.Native.Nat.{_+_, _-_}
 use native.Mathlib.Omega.{arith}
 use borrow.Author.Tests.{le-leb, lt-leb}
 use Rattle.map.specs.Regions.{regionCovers}
-use Rattle.map.proofs.Tests.{ltb-same}
+use Rattle.base.proofs.Tests.{ltb-same}
 use Rattle.map.proofs.regions.region_covers.Statement.{statement}
 use Rattle.map.proofs.regions.region_covers.Tie as tie
 

@@ -2,7 +2,7 @@
 use Prim.Native.Nat.{_+_, _-_}
 use native.Mathlib.Omega.{arith}
 use Rattle.map.specs.Regions.{regionInRange}
-use Rattle.map.proofs.Tests.{leb-same}
+use Rattle.base.proofs.Tests.{leb-same}
 use borrow.Author.Needs.{needs}
 use Rattle.map.proofs.regions.region_in_range.Statement.{statement}
 use Rattle.map.proofs.regions.region_in_range.Tie as tie

@@ -20,7 +20,11 @@ and-right true u e = e
 and-right false true e = refl
 and-right false false e = e
 
--- the parts of three tests that hold together
+-- both of two tests that hold together
+pub both : (t u : Bool) → (t && u) ≡ true → (t ≡ true) × (u ≡ true)
+both t u e = (and-left t u e, and-right t u e)
+
+-- the parts of three
 module _ (t u w : Bool) (e : (t && u && w) ≡ true) where
   pub first : t ≡ true
   first = and-left t u (and-left (t && u) w e)

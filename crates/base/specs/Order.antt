@@ -1,0 +1,18 @@
+-- An order of refusals, read as 01's order line: each number with the case in which it is given, the first that holds counts.
+use Prim.Native.Nat.{ℕ}
+use mathlib.Core.Bool.{Bool}
+use mathlib.Core.List.{List, [], _∷_}
+use Rattle.base.specs.Choice.{cond}
+
+-- a number, and the case in which it is given
+pub data Refusing : Type 0 where
+  refusing : ℕ → Bool → Refusing
+
+infix 30 _when_
+abbrev pub _when_ : ℕ → Bool → Refusing
+n when given = refusing n given
+
+-- the first number that is given; 0, accepted, where none is
+abbrev pub firstOf : List Refusing → ℕ
+firstOf [] = 0
+firstOf (refusing n given ∷ rest) = cond given n (firstOf rest)
