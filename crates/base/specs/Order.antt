@@ -8,7 +8,7 @@ use Rattle.base.specs.Choice.{cond}
 pub data Refusing : Type 0 where
   refusing : ℕ → Bool → Refusing
 
-infix 30 _when_
+infix 70 _when_
 abbrev pub _when_ : ℕ → Bool → Refusing
 n when given = refusing n given
 

@@ -10,10 +10,10 @@ use borrow.Author.Tests.{leb-true, ltb-true, le-leb, lt-ltb, le-ltb, lt-leb, not
 use Rattle.base.specs.Choice.{cond}
 use Rattle.map.specs.Tables.{any, sound}
 use Rattle.map.specs.Regions.{regionsOverlap, regionInRange, regionIsSet, usedRegions, spareRegions, protected}
-use Rattle.map.specs.Devices.{deviceCovers, devicesOverlap, deviceForward, deviceIsSet, usedDevices, spareDevices, total}
-use Rattle.map.specs.Places.{inLinear, placeFrom, place, guard, target, somewhere, linearByte, linearWord}
+use Rattle.map.specs.Devices.{devicesOverlap, deviceInRange, deviceIsSet, usedDevices, spareDevices, covered, total}
+use Rattle.map.specs.Places.{addressable, mapped, succeeds, inLinear, placeFrom, place, guard, target, somewhere, linearByte, linearWord}
 use Rattle.map.specs.Valid.{validRegions, validDevices, valid}
-use Rattle.map.specs.Entries.{device, emptyMap, regionNumber}
+use Rattle.map.specs.Entries.{device, emptyMap, protectOrder, regionNumber}
 use Rattle.map.specs.declared.Region.{Region}
 use Rattle.map.specs.declared.Map.{Map}
 use Rattle.map.specs.declared.Place.{Place}
@@ -38,21 +38,32 @@ nowhere-not = refl
 
 -- a linear byte is below the memory's length, and is found there
 module _ (m : Map) (mem a : ℕ) (e : linearByte m mem a ≡ true) where
-  linear-byte-below : a < mem
+  linear-byte-below : a < addressable mem
   unfolding linearByte
-  linear-byte-below = ltb-true a mem (and-left (ltb a mem) (not (any (deviceCovers a) (usedDevices m))) e)
+  linear-byte-below = ltb-true a (addressable mem) (and-left (ltb a (addressable mem)) (not (covered m a)) e)
 
   linear-byte-place : (dev : ℕ) → place m mem dev a ≡ Linear a
   unfolding linearByte place inLinear
   linear-byte-place dev =
-      let f = not-true (any (deviceCovers a) (usedDevices m)) (and-right (ltb a mem) (not (any (deviceCovers a) (usedDevices m))) e) in
-      from-uncovered mem dev (usedDevices m) 0 0 a f ∙ rw (lt-ltb a mem linear-byte-below)
+      let f = not-true (covered m a) (and-right (ltb a (addressable mem)) (not (covered m a)) e) in
+      from-uncovered mem dev (usedDevices m) 0 0 a f ∙ rw (lt-ltb a (addressable mem) linear-byte-below)
 
 module _ (m : Map) (mem dev : ℕ) where
   -- a place is within the bytes that are lent
   pub place-within : (a : ℕ) → Within (place m mem dev a) mem dev
   unfolding place
   place-within a = from-within mem dev (usedDevices m) 0 0 a
+
+  -- and so is where a store goes
+  pub target-within : (a : ℕ) → Within (target m mem dev a) mem dev
+  unfolding target guard
+  target-within a = go (protected m a) (place m mem dev a) (place-within a)
+    where
+      go : (t : Bool) (p : Place) → Within p mem dev → Within (guard t p) mem dev
+      go true (Linear i) w = tt
+      go false (Linear i) w = w
+      go t (Bank n o i) w = w
+      go t Nowhere w = tt
 
   -- two addresses with one byte are one address
   pub place-one : (a b : ℕ) → SameByte (place m mem dev a) (place m mem dev b) → a ≡ b
@@ -96,23 +107,25 @@ module _ (m : Map) (mem dev : ℕ) where
       go t (Bank n o i) e = refl
       go t Nowhere e = refl
 
--- a word of two linear bytes: the second has an address too, both are below the memory's length, and are found there
+-- a word of two linear bytes: both have an address, are below the memory's length, and are found there
 module _ (m : Map) (mem a : ℕ) (e : linearWord m mem a ≡ true) where
-  pub linear-second : a + 1 ≤ 65535
+  linear-far : a + 1 < addressable mem
   unfolding linearWord
-  linear-second = leb-true (a + 1) 65535 (first (leb (a + 1) 65535) (linearByte m mem a) (linearByte m mem (a + 1)) e)
+  linear-far = linear-byte-below m mem (a + 1) (and-right (linearByte m mem a) (linearByte m mem (a + 1)) e)
+
+  pub linear-second : a + 1 ≤ 65535
+  linear-second = omega (arith, linear-far)
 
   pub linear-low : (dev : ℕ) → place m mem dev a ≡ Linear a
   unfolding linearWord
-  linear-low dev = linear-byte-place m mem a (second (leb (a + 1) 65535) (linearByte m mem a) (linearByte m mem (a + 1)) e) dev
+  linear-low dev = linear-byte-place m mem a (and-left (linearByte m mem a) (linearByte m mem (a + 1)) e) dev
 
   pub linear-high : (dev : ℕ) → place m mem dev (a + 1) ≡ Linear (a + 1)
   unfolding linearWord
-  linear-high dev = linear-byte-place m mem (a + 1) (third (leb (a + 1) 65535) (linearByte m mem a) (linearByte m mem (a + 1)) e) dev
+  linear-high dev = linear-byte-place m mem (a + 1) (and-right (linearByte m mem a) (linearByte m mem (a + 1)) e) dev
 
   pub linear-below : a + 1 < mem
-  unfolding linearWord
-  linear-below = linear-byte-below m mem (a + 1) (third (leb (a + 1) 65535) (linearByte m mem a) (linearByte m mem (a + 1)) e)
+  linear-below = omega (arith, linear-far)
 
 -- ---- a valid map
 
@@ -141,25 +154,25 @@ module _ (m : Map) (dev : List ℕ) (v : valid m dev ≡ true) where
   unfolding validDevices
   few-devices =
       let spare = not (any deviceIsSet (spareDevices m)) in
-      leb-true (m .devices) 8 (first (leb (m .devices) 8) spare (sound deviceForward devicesOverlap (usedDevices m)) valid-devices)
+      leb-true (m .devices) 8 (first (leb (m .devices) 8) spare (sound deviceInRange devicesOverlap (usedDevices m)) valid-devices)
 
-  -- address a is mapped if a device covers it or a < memory length
-  pub mapped-rule : (mem a : ℕ) → somewhere (place m mem (length dev) a) ≡ (any (deviceCovers a) (usedDevices m) || ltb a mem)
-  unfolding place somewhere inLinear
-  mapped-rule mem a = go (any (deviceCovers a) (usedDevices m)) refl
+  -- an address has its byte somewhere exactly if it is mapped
+  pub mapped-rule : (mem a : ℕ) → somewhere (place m mem (length dev) a) ≡ mapped m mem a
+  unfolding mapped place somewhere inLinear
+  mapped-rule mem a = go (covered m a) refl
     where
       linear : (t : Bool) → somewhere (cond t (Linear a) Nowhere) ≡ t
       linear true = refl
       linear false = refl
 
-      go : (t : Bool) → any (deviceCovers a) (usedDevices m) ≡ t → somewhere (placeFrom (usedDevices m) 0 0 mem (length dev) a) ≡ (t || ltb a mem)
+      go : (t : Bool) → covered m a ≡ t → somewhere (placeFrom (usedDevices m) 0 0 mem (length dev) a) ≡ (t || ltb a (addressable mem))
       go true e = let f = from-covered mem (length dev) (usedDevices m) 0 0 a (omega (arith, valid-room)) e in rw (f .3)
-      go false e = rw (from-uncovered mem (length dev) (usedDevices m) 0 0 a e) (linear (ltb a mem))
+      go false e = rw (from-uncovered mem (length dev) (usedDevices m) 0 0 a e) (linear (ltb a (addressable mem)))
 
-  -- a store succeeds if a device covers a, or a is mapped and not protected
-  pub takes-rule : (mem a : ℕ) → somewhere (target m mem (length dev) a) ≡ (any (deviceCovers a) (usedDevices m) || (ltb a mem && not (protected m a)))
-  unfolding target place guard somewhere inLinear
-  takes-rule mem a = go (any (deviceCovers a) (usedDevices m)) refl
+  -- a store has a place to go to exactly if it succeeds
+  pub takes-rule : (mem a : ℕ) → somewhere (target m mem (length dev) a) ≡ succeeds m mem a
+  unfolding succeeds mapped target place guard somewhere inLinear
+  takes-rule mem a = go (covered m a) refl
     where
       linear : (t u : Bool) → somewhere (guard u (cond t (Linear a) Nowhere)) ≡ (t && not u)
       linear true true = refl
@@ -167,9 +180,9 @@ module _ (m : Map) (dev : List ℕ) (v : valid m dev ≡ true) where
       linear false true = refl
       linear false false = refl
 
-      go : (t : Bool) → any (deviceCovers a) (usedDevices m) ≡ t → somewhere (guard (protected m a) (placeFrom (usedDevices m) 0 0 mem (length dev) a)) ≡ (t || (ltb a mem && not (protected m a)))
+      go : (t : Bool) → covered m a ≡ t → somewhere (guard (protected m a) (placeFrom (usedDevices m) 0 0 mem (length dev) a)) ≡ (t || ((t || ltb a (addressable mem)) && not (protected m a)))
       go true e = let f = from-covered mem (length dev) (usedDevices m) 0 0 a (omega (arith, valid-room)) e in rw (f .3)
-      go false e = rw (from-uncovered mem (length dev) (usedDevices m) 0 0 a e) (linear (ltb a mem) (protected m a))
+      go false e = rw (from-uncovered mem (length dev) (usedDevices m) 0 0 a e) (linear (ltb a (addressable mem)) (protected m a))
 
 -- of the device buffer only its length matters
 pub valid-length : (m : Map) (dev dev₁ : List ℕ) → length dev ≡ length dev₁ → valid m dev ≡ valid m dev₁
@@ -183,5 +196,5 @@ empty-valid dev = le-leb 0 (length dev) (omega arith)
 
 -- ---- adding a region that ends in range to a table with room: only 13 is left
 pub region-last : (m : Map) (r : Region) → r .start + r .len ≤ 65535 → m .regions < 8 → regionNumber m r ≡ cond (any (regionsOverlap r) (usedRegions m)) 13 0
-unfolding regionNumber
+unfolding regionNumber protectOrder
 region-last m r h f = rw (le-ltb (65535) (r .start + r .len) h, lt-leb 8 (m .regions) f)

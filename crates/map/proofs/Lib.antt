@@ -6,3 +6,4 @@ pub mod PlaceLaws
 pub mod SoundLaws
 pub mod Laws
 pub mod KeptLaws
+pub mod AnswerLaws

@@ -10,7 +10,7 @@ use borrow.Author.Tests.{ltb-true, lt-ltb, le-ltb, le-leb, lt-leb}
 use Rattle.base.specs.Choice.{cond}
 use Rattle.map.specs.Tables.{any}
 use Rattle.map.specs.Devices.{deviceCovers, coversEither, deviceSize, usedDevices, total}
-use Rattle.map.specs.Places.{inLinear, inBank, placeFrom, linearByte, linearWord}
+use Rattle.map.specs.Places.{addressable, inLinear, inBank, placeFrom, linearByte, linearWord}
 use Rattle.map.specs.Entries.{device}
 use Rattle.map.specs.declared.Device.{Device}
 use Rattle.map.specs.declared.Map.{Map}
@@ -29,9 +29,9 @@ SameByte (Bank n o i) (Bank k q j) = i ≡ j
 SameByte (Bank n o i) Nowhere = ⊥
 SameByte Nowhere q = ⊥
 
--- the index is within the bytes that are lent
+-- the index is within the bytes that are lent, and a linear one has an address
 abbrev pub Within : Place → ℕ → ℕ → Type 0
-Within (Linear i) mem dev = i < mem
+Within (Linear i) mem dev = i < addressable mem
 Within (Bank n o i) mem dev = i < dev
 Within Nowhere mem dev = Unit {0}
 
@@ -73,7 +73,7 @@ module _ (number offset base dev : ℕ) where
 module _ (mem a : ℕ) where
   linear-not-bank : (k q i : ℕ) → inLinear mem a ≡ Bank k q i → ⊥
   unfolding inLinear
-  linear-not-bank k q i = go (ltb a mem)
+  linear-not-bank k q i = go (ltb a (addressable mem))
     where
       go : (t : Bool) → cond t (Linear a) Nowhere ≡ Bank k q i → ⊥
       go true e = let z : _≡_ {A = ℕ} 0 1 = cc in omega arith
@@ -81,7 +81,7 @@ module _ (mem a : ℕ) where
 
   linear-index : (i : ℕ) → inLinear mem a ≡ Linear i → a ≡ i
   unfolding inLinear
-  linear-index i = go (ltb a mem)
+  linear-index i = go (ltb a (addressable mem))
     where
       go : (t : Bool) → cond t (Linear a) Nowhere ≡ Linear i → a ≡ i
       go true e = cc
@@ -89,10 +89,10 @@ module _ (mem a : ℕ) where
 
   linear-within : (dev : ℕ) → Within (inLinear mem a) mem dev
   unfolding inLinear
-  linear-within dev = go (ltb a mem) refl
+  linear-within dev = go (ltb a (addressable mem)) refl
     where
-      go : (t : Bool) → ltb a mem ≡ t → Within (cond t (Linear a) Nowhere) mem dev
-      go true e = ltb-true a mem e
+      go : (t : Bool) → ltb a (addressable mem) ≡ t → Within (cond t (Linear a) Nowhere) mem dev
+      go true e = ltb-true a (addressable mem) e
       go false e = tt
 
 -- ---- the table
@@ -188,18 +188,14 @@ module _ (mem dev : ℕ) where
 -- ---- a word of two linear bytes
 
 module _ (m : Map) (mem a : ℕ) where
-  -- the last address has no second one
-  pub word-last : 65535 < a + 1 → linearWord m mem a ≡ false
-  unfolding linearWord
-  word-last h = rw (lt-leb (a + 1) 65535 h)
-
-  pub word-past : mem ≤ a + 1 → linearWord m mem a ≡ false
+  -- the second one is past the memory's length, or past the last address
+  pub word-past : addressable mem ≤ a + 1 → linearWord m mem a ≡ false
   unfolding linearWord linearByte
-  word-past h = rw (le-ltb (a + 1) mem h) (and-false (leb (a + 1) 65535 && (ltb a mem && not (any (deviceCovers a) (usedDevices m)))))
+  word-past h = rw (le-ltb (a + 1) (addressable mem) h) (and-false (ltb a (addressable mem) && not (any (deviceCovers a) (usedDevices m))))
 
-  -- where both its addresses are below the memory's length, the devices decide
-  pub word-by-devices : a + 1 ≤ 65535 → a + 1 < mem → not (any (coversEither a (a + 1)) (usedDevices m)) ≡ linearWord m mem a
+  -- where both are there, the devices decide
+  pub word-by-devices : a + 1 < addressable mem → not (any (coversEither a (a + 1)) (usedDevices m)) ≡ linearWord m mem a
   unfolding linearWord linearByte
-  word-by-devices h k =
-      rw (any-either a (a + 1) (usedDevices m), le-leb (a + 1) 65535 h, lt-ltb a mem (omega arith), lt-ltb (a + 1) mem k)
+  word-by-devices k =
+      rw (any-either a (a + 1) (usedDevices m), lt-ltb a (addressable mem) (omega arith), lt-ltb (a + 1) (addressable mem) k)
       (not-or (any (deviceCovers a) (usedDevices m)) (any (deviceCovers (a + 1)) (usedDevices m)))

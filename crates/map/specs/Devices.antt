@@ -4,6 +4,7 @@ use mathlib.Core.Bool.{Bool, not, _&&_, _||_}
 use mathlib.Core.List.{List, [], _∷_}
 use lib.Dec.{leb, ltb, eqb}
 use lib.ListN.{take, drop}
+use Rattle.map.specs.Tables.{any}
 use Rattle.map.specs.declared.Device.{Device}
 use Rattle.map.specs.declared.Map.{Map}
 
@@ -22,9 +23,9 @@ deviceSize d = d .end - d .start
 unfoldable pub devicesOverlap : Device → Device → Bool
 devicesOverlap e d = leb (e .start) (d .end) && leb (d .start) (e .end)
 
--- it does not start past its end
-unfoldable pub deviceForward : Device → Bool
-deviceForward d = leb (d .start) (d .end)
+-- its end is in range, and it does not start past its end
+unfoldable pub deviceInRange : Device → Bool
+deviceInRange d = leb (d .end) 65535 && leb (d .start) (d .end)
 
 -- it is not zero
 unfoldable pub deviceIsSet : Device → Bool
@@ -36,6 +37,10 @@ usedDevices m = take (m .devices) (m .device)
 
 unfoldable pub spareDevices : Map → List Device
 spareDevices m = drop (m .devices) (m .device)
+
+-- a device covers address a
+abbrev pub covered : Map → ℕ → Bool
+covered m a = any (deviceCovers a) (usedDevices m)
 
 -- the bytes that devices have together
 unfoldable pub total : List Device → ℕ

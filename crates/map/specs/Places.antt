@@ -1,20 +1,34 @@
 -- Where the byte of an address is, and where a store to it goes.
-use Prim.Native.Nat.{ℕ, _+_, _-_}
-use mathlib.Core.Bool.{Bool, true, false, not, _&&_}
+use Prim.Native.Nat.{ℕ, _+_, _-_, min}
+use mathlib.Core.Bool.{Bool, true, false, not, _&&_, _||_}
 use mathlib.Core.List.{List, [], _∷_}
-use lib.Dec.{leb, ltb}
+use lib.Dec.{ltb}
 use Rattle.base.specs.Choice.{cond}
-use Rattle.map.specs.Tables.{any}
 use Rattle.map.specs.Regions.{protected}
-use Rattle.map.specs.Devices.{deviceCovers, deviceSize, usedDevices}
+use Rattle.map.specs.Devices.{deviceCovers, deviceSize, usedDevices, covered}
 use Rattle.map.specs.declared.Device.{Device}
 use Rattle.map.specs.declared.Map.{Map}
 use Rattle.map.specs.declared.Place.{Place}
 use Rattle.map.specs.declared.Place.the-variants.{Linear, Bank, Nowhere}
 
--- a < memory length
+-- ---- 01's two sentences
+
+-- of the lent bytes those that have an address: bytes past 65,535 are never touched
+abbrev pub addressable : ℕ → ℕ
+addressable mem = min mem 65536
+
+-- address a is mapped if a device covers it or a < memory length
+unfoldable pub mapped : Map → ℕ → ℕ → Bool
+mapped m mem a = covered m a || ltb a (addressable mem)
+
+-- a store succeeds if a device covers a, or a is mapped and not protected
+unfoldable pub succeeds : Map → ℕ → ℕ → Bool
+succeeds m mem a = covered m a || (mapped m mem a && not (protected m a))
+
+-- ---- where that byte is. In a valid map it is somewhere exactly if the sentences say so (`mapped-rule`, `takes-rule` of proofs/Laws.antt)
+
 unfoldable pub inLinear : ℕ → ℕ → Place
-inLinear mem a = cond (ltb a mem) (Linear a) Nowhere
+inLinear mem a = cond (ltb a (addressable mem)) (Linear a) Nowhere
 
 -- the byte at an offset from a device's start, where the device's bytes start at base. In a valid map each such byte is within the device buffer
 unfoldable pub inBank : ℕ → ℕ → ℕ → ℕ → Place
@@ -45,10 +59,10 @@ somewhere (Linear i) = true
 somewhere (Bank n o i) = true
 somewhere Nowhere = false
 
--- the byte of address a is a linear one: it is below the memory's length, and no device covers it
+-- the byte of address a is a linear one: it is there, and no device covers it
 unfoldable pub linearByte : Map → ℕ → ℕ → Bool
-linearByte m mem a = ltb a mem && not (any (deviceCovers a) (usedDevices m))
+linearByte m mem a = ltb a (addressable mem) && not (covered m a)
 
--- both bytes of the word at a are linear ones: the second has an address too, both are below the memory's length, and no device in use covers one of them
+-- both bytes of the word at a are linear ones
 unfoldable pub linearWord : Map → ℕ → ℕ → Bool
-linearWord m mem a = leb (a + 1) 65535 && linearByte m mem a && linearByte m mem (a + 1)
+linearWord m mem a = linearByte m mem a && linearByte m mem (a + 1)

@@ -1,5 +1,5 @@
 -- Valid tables: they hold at most 8, unused entries are zero, ends are in range, no device starts past its end,
--- no pair overlaps, device sizes fit the device buffer. (A device's end is sixteen bits wide, so it is in range.)
+-- no pair overlaps, device sizes fit the device buffer.
 use Prim.Native.Nat.{ℕ}
 use mathlib.Core.Bool.{Bool, not, _&&_}
 use mathlib.Core.List.{List}
@@ -7,7 +7,7 @@ use lib.Dec.{leb}
 use lib.ListN.{length}
 use Rattle.map.specs.Tables.{any, sound}
 use Rattle.map.specs.Regions.{regionInRange, regionsOverlap, regionIsSet, usedRegions, spareRegions}
-use Rattle.map.specs.Devices.{deviceForward, devicesOverlap, deviceIsSet, usedDevices, spareDevices, total}
+use Rattle.map.specs.Devices.{deviceInRange, devicesOverlap, deviceIsSet, usedDevices, spareDevices, total}
 use Rattle.map.specs.declared.Map.{Map}
 
 unfoldable pub validRegions : Map → Bool
@@ -16,7 +16,7 @@ validRegions m =
 
 unfoldable pub validDevices : Map → Bool
 validDevices m =
-    leb (m .devices) 8 && not (any deviceIsSet (spareDevices m)) && sound deviceForward devicesOverlap (usedDevices m)
+    leb (m .devices) 8 && not (any deviceIsSet (spareDevices m)) && sound deviceInRange devicesOverlap (usedDevices m)
 
 -- of a map and the bytes of its device buffer
 unfoldable pub valid : Map → List ℕ → Bool

@@ -6,7 +6,7 @@ ghost use mathlib.Core.Path.{_≡_};
 ghost use lib.ListN.{drop};
 ghost use Prim.Native.Nat.{_+_, _≤_};
 ghost use Rattle.map.specs.Tables.{any, sound};
-ghost use Rattle.map.specs.Devices.{deviceCovers, coversEither, deviceSize, devicesOverlap, deviceForward, deviceIsSet, usedDevices, spareDevices, total};
+ghost use Rattle.map.specs.Devices.{deviceCovers, coversEither, deviceSize, devicesOverlap, deviceInRange, deviceIsSet, usedDevices, spareDevices, total};
 
 pub fn device_covers(d: Device, a: u16) -> bool
     ensures { λ t. ⌜ t ≡ deviceCovers a d ⌝ }
@@ -65,8 +65,9 @@ pub fn device_meets(m: Map, from: usize, e: Device) -> bool
     false
 }
 
-fn device_forward(d: Device) -> bool
-    ensures { λ t. ⌜ t ≡ deviceForward d ⌝ }
+// Its end is in range by its width.
+fn device_in_range(d: Device) -> bool
+    ensures { λ t. ⌜ t ≡ deviceInRange d ⌝ }
 {
     d.start <= d.end
 }
@@ -94,15 +95,15 @@ pub fn spare_device_set(m: Map) -> bool
     false
 }
 
-// Whether each device in use does not start past its end and overlaps none after it.
+// Whether each device in use is in range and overlaps none after it.
 pub fn devices_sound(m: Map) -> bool
-    ensures { λ t. ⌜ t ≡ sound deviceForward devicesOverlap (usedDevices m) ⌝ }
+    ensures { λ t. ⌜ t ≡ sound deviceInRange devicesOverlap (usedDevices m) ⌝ }
 {
     let n = used(m.devices);
     let mut i: usize = 0;
     while i < n {
         let d = m.device[i];
-        if !device_forward(d) {
+        if !device_in_range(d) {
             return false;
         }
         if device_meets(m, i + 1, d) {

@@ -6,8 +6,8 @@ use Prim.Native.Nat.{ℕ, _<_}
 use native.Mathlib.Omega.{arith}
 use lib.Dec.{ltb}
 use borrow.Author.Tests.{lt-ltb}
-use lib.ListN.{length, getD, set, length-set}
-use lib.Seq.{getD-set-same, getD-set-other, set-getD, set-set}
+use lib.ListN.{length, getD, set, drop, length-set}
+use lib.Seq.{drop-set-lt, getD-set-same, getD-set-other, set-getD, set-set}
 use Rattle.base.specs.Choice.{cond}
 use Rattle.map.specs.Places.{somewhere}
 use Rattle.map.specs.declared.Place.{Place}
@@ -15,30 +15,30 @@ use Rattle.map.specs.declared.Place.the-variants.{Linear, Bank, Nowhere}
 use Rattle.base.proofs.Tests.{clash}
 use Rattle.map.proofs.PlaceLaws.{SameByte, Within}
 use Rattle.map.proofs.Laws.{linear-somewhere, bank-somewhere, nowhere-not}
-use Rattle.memory.specs.Bytes.{Lent, lent, answered, get, put}
+use Rattle.memory.specs.Bytes.{Lent, lent, readIn, get, put}
 use Rattle.memory.specs.declared.Read.the-variants.{Byte, Unmapped}
 
 -- ---- one buffer
 
 module _ (bytes : List ℕ) (i : ℕ) (p : Place) where
-  answered-own : (v : ℕ) → i < length bytes → answered (set bytes i v) i p ≡ Byte v p
-  unfolding answered
-  answered-own v h = rw (length-set, lt-ltb i (length bytes) h, getD-set-same bytes i v 0 h)
+  read-in-own : (v : ℕ) → i < length bytes → readIn (set bytes i v) i p ≡ Byte v p
+  unfolding readIn
+  read-in-own v h = rw (length-set, lt-ltb i (length bytes) h, getD-set-same bytes i v 0 h)
 
-  answered-other : (j v : ℕ) → (i ≡ j → ⊥) → answered (set bytes j v) i p ≡ answered bytes i p
-  unfolding answered
-  answered-other j v n = rw (length-set, getD-set-other bytes j i v 0 n)
+  read-in-other : (j v : ℕ) → (i ≡ j → ⊥) → readIn (set bytes j v) i p ≡ readIn bytes i p
+  unfolding readIn
+  read-in-other j v n = rw (length-set, getD-set-other bytes j i v 0 n)
 
-  answered-byte : (x : ℕ) (q : Place) → answered bytes i p ≡ Byte x q → getD bytes i 0 ≡ x
-  unfolding answered
-  answered-byte x q = go (ltb i (length bytes))
+  read-in-byte : (x : ℕ) (q : Place) → readIn bytes i p ≡ Byte x q → getD bytes i 0 ≡ x
+  unfolding readIn
+  read-in-byte x q = go (ltb i (length bytes))
     where
       go : (t : Bool) → cond t (Byte (getD bytes i 0) p) Unmapped ≡ Byte x q → getD bytes i 0 ≡ x
       go true e = cc
       go false e = let z : _≡_ {A = ℕ} 0 1 = cc in omega arith
 
-  put-again : (v x : ℕ) (q : Place) → answered bytes i p ≡ Byte x q → set (set bytes i v) i x ≡ bytes
-  put-again v x q e = set-set bytes i v x ∙ ap (set bytes i) (sym (answered-byte x q e)) ∙ set-getD bytes i 0
+  put-again : (v x : ℕ) (q : Place) → readIn bytes i p ≡ Byte x q → set (set bytes i v) i x ≡ bytes
+  put-again v x q e = set-set bytes i v x ∙ ap (set bytes i) (sym (read-in-byte x q e)) ∙ set-getD bytes i 0
 
 -- ---- both
 
@@ -54,19 +54,26 @@ put-dev (Linear i) s v = refl
 put-dev (Bank n o i) s v = simp length-set
 put-dev Nowhere s v = refl
 
+-- lent bytes past 65,535 stay
+pub put-far : (q : Place) (s : Lent) (v : ℕ) → Within q (length (s .mem)) (length (s .dev)) → drop 65536 (put q s v .mem) ≡ drop 65536 (s .mem)
+unfolding put
+put-far (Linear i) s v w = drop-set-lt 65536 (s .mem) i v (omega (arith, w))
+put-far (Bank n o i) s v w = refl
+put-far Nowhere s v w = refl
+
 pub get-put : (q : Place) (s : Lent) (v : ℕ) → Within q (length (s .mem)) (length (s .dev)) → somewhere q ≡ true → get q (put q s v) ≡ Byte v q
 unfolding get put
-get-put (Linear i) s v w h = answered-own (s .mem) i (Linear i) v w
-get-put (Bank n o i) s v w h = answered-own (s .dev) i (Bank n o i) v w
+get-put (Linear i) s v w h = read-in-own (s .mem) i (Linear i) v (omega (arith, w))
+get-put (Bank n o i) s v w h = read-in-own (s .dev) i (Bank n o i) v w
 get-put Nowhere s v w h = clash (sym nowhere-not ∙ h)
 
 pub get-put-other : (p q : Place) (s : Lent) (v : ℕ) → (SameByte p q → ⊥) → get p (put q s v) ≡ get p s
 unfolding get put
-get-put-other (Linear i) (Linear j) s v n = answered-other (s .mem) i (Linear i) j v n
+get-put-other (Linear i) (Linear j) s v n = read-in-other (s .mem) i (Linear i) j v n
 get-put-other (Linear i) (Bank k q j) s v n = refl
 get-put-other (Linear i) Nowhere s v n = refl
 get-put-other (Bank k q i) (Linear j) s v n = refl
-get-put-other (Bank k q i) (Bank k′ q′ j) s v n = answered-other (s .dev) i (Bank k q i) j v n
+get-put-other (Bank k q i) (Bank k′ q′ j) s v n = read-in-other (s .dev) i (Bank k q i) j v n
 get-put-other (Bank k q i) Nowhere s v n = refl
 get-put-other Nowhere q s v n = refl
 
@@ -84,11 +91,11 @@ put-none Nowhere s v e = refl
 
 -- a byte is at each place within the bytes that are lent
 pub get-some : (q : Place) (s : Lent) → Within q (length (s .mem)) (length (s .dev)) → somewhere q ≡ true → (x : ℕ) × (get q s ≡ Byte x q)
-unfolding get answered
-get-some (Linear i) s w h = (getD (s .mem) i 0, rw (lt-ltb i (length (s .mem)) w))
+unfolding get readIn
+get-some (Linear i) s w h = (getD (s .mem) i 0, rw (lt-ltb i (length (s .mem)) (omega (arith, w))))
 get-some (Bank n o i) s w h = (getD (s .dev) i 0, rw (lt-ltb i (length (s .dev)) w))
 get-some Nowhere s w h = clash (sym nowhere-not ∙ h)
 
 pub get-linear : (s : Lent) (i : ℕ) → i < length (s .mem) → get (Linear i) s ≡ Byte (getD (s .mem) i 0) (Linear i)
-unfolding get answered
+unfolding get readIn
 get-linear s i h = rw (lt-ltb i (length (s .mem)) h)

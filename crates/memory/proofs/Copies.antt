@@ -5,8 +5,8 @@ use mathlib.Core.List.{List, [], _∷_, _++_, append-nil, append-assoc}
 use Prim.Native.Nat.{ℕ, zero, suc, _+_, _-_, _≤_, _<_}
 use native.Mathlib.Numerals.{add-one}
 use native.Mathlib.Omega.{arith}
-use borrow.Author.Tests.{lt-ltb, le-ltb, ltb-false}
-use lib.Dec.{ltb}
+use borrow.Author.Tests.{lt-ltb, le-ltb}
+use lib.Dec.{eqb}
 use lib.ListN.{length, set, take, drop, take-append-drop}
 use lib.Seq.{length-take-le, take-suc-set, drop-set-lt, drop-drop}
 use Rattle.base.specs.Choice.{cond}
@@ -14,7 +14,7 @@ use Rattle.map.specs.Valid.{valid}
 use Rattle.map.specs.declared.Map.{Map}
 use Rattle.map.specs.declared.Place.{Place}
 use Rattle.memory.specs.Bytes.{Lent, readByte}
-use Rattle.memory.specs.Blocks.{onward, readBytes, over, Counted, numbered, readOut, readOutBuffer}
+use Rattle.memory.specs.Blocks.{untilUnmapped, readBytes, over, Counted, numbered, readOrder, counting, copying, readNumber, readOut, readOutBuffer}
 use Rattle.memory.specs.declared.Read.{Read}
 use Rattle.memory.specs.declared.Read.the-variants.{Byte, Unmapped}
 
@@ -48,11 +48,11 @@ module _ (m : Map) (s : Lent) (start size : ℕ) where
       next = omega arith
 
       pub copied-stop : readByte m s (start + i) ≡ Unmapped → (i ≡ length (readBytes m s start size)) × (out ≡ over (readBytes m s start size) out₀)
-      unfolding readBytes onward
+      unfolding readBytes untilUnmapped
       copied-stop e = copied-all (rw (next, e))
 
       pub copied-more : (v : ℕ) (p : Place) → readByte m s (start + i) ≡ Byte v p → i < length out → Copied m s start size out₀ (set out i v) (i + 1)
-      unfolding readBytes onward
+      unfolding readBytes untilUnmapped
       copied-more v p e g =
           let t : take (i + 1) (set out i v) ≡ take i out ++ (v ∷ []) = rw add-one (take-suc-set out i v g) in
           let a : start + (i + 1) ≡ start + i + 1 = omega arith in
@@ -69,52 +69,43 @@ pub record Answered (m : Map) (s : Lent) (start size : ℕ) (out : List ℕ) (n 
 
 module _ (m : Map) (s : Lent) (start size : ℕ) (out : List ℕ) where
   pub out-1 : valid m (s .dev) ≡ false → Answered m s start size out (numbered 1 0) out
-  unfolding readOut readOutBuffer
+  unfolding readOut readOutBuffer readNumber counting copying
   out-1 e = record { answer = rw e; buffer = rw e }
 
   module _ (e : valid m (s .dev) ≡ true) where
     pub out-12 : 65535 < start + size → Answered m s start size out (numbered 12 0) out
-    unfolding readOut readOutBuffer
+    unfolding readOut readOutBuffer readNumber readOrder counting copying
     out-12 h = record { answer = rw (e, lt-ltb _ _ h); buffer = rw (e, lt-ltb _ _ h) }
 
     module _ (h : start + size ≤ 65535) where
       pub out-19 : length out < size → Answered m s start size out (numbered 19 0) out
-      unfolding readOut readOutBuffer
+      unfolding readOut readOutBuffer readNumber readOrder counting copying
       out-19 f = record { answer = rw (e, le-ltb _ _ h, lt-ltb _ _ f); buffer = rw (e, le-ltb _ _ h, lt-ltb _ _ f) }
 
       pub out-0 : size ≤ length out → Answered m s start size out (numbered 0 (length (readBytes m s start size))) (over (readBytes m s start size) out)
-      unfolding readOut readOutBuffer
+      unfolding readOut readOutBuffer readNumber readOrder counting copying
       out-0 f = record { answer = rw (e, le-ltb _ _ h, le-ltb _ _ f); buffer = rw (e, le-ltb _ _ h, le-ltb _ _ f) }
 
--- ---- for any room: a range past the last address is refused, and a count fits sixteen bits
+-- ---- how many bytes are read
 
-onward-length : (r : Read) (rest : List ℕ) (n : ℕ) → length rest ≤ n → length (onward r rest) ≤ suc n
-unfolding onward
-onward-length (Byte v p) rest n h = omega arith
-onward-length Unmapped rest n h = omega arith
+until-length : (r : Read) (rest : List ℕ) (n : ℕ) → length rest ≤ n → length (untilUnmapped r rest) ≤ suc n
+unfolding untilUnmapped
+until-length (Byte v p) rest n h = omega arith
+until-length Unmapped rest n h = omega arith
 
 module _ (m : Map) (s : Lent) where
   -- no more bytes than were asked for
   pub read-length : (start size : ℕ) → length (readBytes m s start size) ≤ size
   unfolding readBytes
   read-length start zero = omega arith
-  read-length start (suc n) = onward-length (readByte m s start) (readBytes m s (start + 1) n) n (read-length (start + 1) n)
+  read-length start (suc n) = until-length (readByte m s start) (readBytes m s (start + 1) n) n (read-length (start + 1) n)
 
-  module _ (start size room : ℕ) where
-    pub out-far : valid m (s .dev) ≡ true → 65535 < start + size → readOut m s start size room ≡ numbered 12 0
-    unfolding readOut
-    out-far e h = rw (e, lt-ltb _ _ h)
-
-    pub out-count : readOut m s start size room .count ≤ 65535
-    unfolding readOut
-    out-count = go (valid m (s .dev)) (ltb 65535 (start + size)) (ltb room size) refl
+  module _ (start size : ℕ) where
+    -- what passes 12 counts at most 65,535 bytes
+    pub counting-most : (n : ℕ) → (eqb n 0 ≡ true → start + size ≤ 65535) → counting m s start size n .count ≤ 65535
+    unfolding counting
+    counting-most n h = go (eqb n 0) refl
       where
-        go : (t u w : Bool) → ltb 65535 (start + size) ≡ u
-            → cond t (cond u (numbered 12 0) (cond w (numbered 19 0) (numbered 0 (length (readBytes m s start size))))) (numbered 1 0) .count ≤ 65535
-        go true true w h = omega arith
-        go true false true h = omega arith
-        go true false false h =
-            let f = ltb-false 65535 (start + size) h in
-            let n = read-length start size in
-            omega arith
-        go false u w h = omega arith
+        go : (t : Bool) → eqb n 0 ≡ t → cond t (numbered 0 (length (readBytes m s start size))) (numbered n 0) .count ≤ 65535
+        go true e = omega (arith, h e, read-length start size)
+        go false e = omega arith

@@ -4,20 +4,20 @@ use mathlib.Core.Path.{_≡_, refl, sym, ap, _∙_}
 use mathlib.Core.Bool.{Bool, true, false, not, _&&_, _||_}
 use Prim.Native.Nat.{ℕ, _<_}
 use lib.Dec.{ltb}
-use lib.ListN.{length, getD}
+use lib.ListN.{length, getD, drop}
 use Rattle.map.specs.Tables.{any}
 use Rattle.map.specs.Regions.{protected}
 use Rattle.map.specs.Devices.{deviceCovers, usedDevices}
-use Rattle.map.specs.Places.{place, somewhere}
+use Rattle.map.specs.Places.{place, succeeds, somewhere}
 use Rattle.map.specs.Valid.{valid}
 use Rattle.map.specs.declared.Map.{Map}
 use Rattle.map.specs.declared.Place.{Place}
 use Rattle.map.specs.declared.Place.the-variants.{Linear}
 use Rattle.map.proofs.PlaceLaws.{SameByte, Within}
-use Rattle.map.proofs.Laws.{place-within, place-one, target-place, takes-rule, valid-length}
+use Rattle.map.proofs.Laws.{place-within, target-within, place-one, target-place, takes-rule, valid-length}
 use Rattle.memory.specs.Bytes.{Lent, get, put, placeIn, targetIn, readByte, takes, storeByte}
 use Rattle.memory.specs.declared.Read.the-variants.{Byte}
-use Rattle.memory.proofs.ByteLaws.{put-mem, put-dev, get-put, get-put-other, put-back, put-none, get-some, get-linear}
+use Rattle.memory.proofs.ByteLaws.{put-mem, put-dev, get-put, get-put-other, put-back, put-none, get-some, get-linear, put-far}
 
 -- the same numbers of bytes are lent
 pub record SameLengths (s t : Lent) : Type 0 where
@@ -52,6 +52,11 @@ placed-within : (m : Map) (s : Lent) (a : ℕ) → Within (placeIn m s a) (lengt
 unfolding placeIn
 placed-within m s a = place-within m (length (s .mem)) (length (s .dev)) a
 
+-- and so is where a store goes
+sent-within : (m : Map) (s : Lent) (a : ℕ) → Within (targetIn m s a) (length (s .mem)) (length (s .dev))
+unfolding targetIn
+sent-within m s a = target-within m (length (s .mem)) (length (s .dev)) a
+
 -- two addresses with one byte are one address
 pub placed-one : (m : Map) (s : Lent) (a b : ℕ) → SameByte (placeIn m s a) (placeIn m s b) → a ≡ b
 unfolding placeIn
@@ -64,8 +69,8 @@ read-placed m s a e h = rw e (get-linear s a h)
 
 -- ---- stores
 
--- a store succeeds if a device covers a, or a is mapped and not protected
-pub takes-valid : (m : Map) (s : Lent) (a : ℕ) → valid m (s .dev) ≡ true → takes m s a ≡ (any (deviceCovers a) (usedDevices m) || (ltb a (length (s .mem)) && not (protected m a)))
+-- an address takes a store exactly if 01 says that it succeeds
+pub takes-valid : (m : Map) (s : Lent) (a : ℕ) → valid m (s .dev) ≡ true → takes m s a ≡ succeeds m (length (s .mem)) a
 unfolding takes targetIn
 takes-valid m s a v = takes-rule m (s .dev) v (length (s .mem)) a
 
@@ -84,6 +89,11 @@ module _ (m : Map) (s : Lent) (a v : ℕ) where
   pub store-lengths : SameLengths (storeByte m s a v) s
   unfolding storeByte
   store-lengths = record { mem = put-mem (targetIn m s a) s v; dev = put-dev (targetIn m s a) s v }
+
+  -- lent bytes past 65,535 are never touched
+  pub store-far : drop 65536 (storeByte m s a v .mem) ≡ drop 65536 (s .mem)
+  unfolding storeByte
+  store-far = put-far (targetIn m s a) s v (sent-within m s a)
 
   -- it leaves valid tables valid
   pub store-valid : valid m (storeByte m s a v .dev) ≡ valid m (s .dev)

@@ -12,14 +12,16 @@ use Rattle.base.specs.Words.{doubled}
 use Rattle.map.specs.Tables.{any}
 use Rattle.map.specs.Regions.{regionsOverlap, usedRegions}
 use Rattle.map.specs.Valid.{valid}
-use Rattle.map.specs.Entries.{region, regionMap}
+use Rattle.map.specs.Entries.{region, withRegion, regionNumber}
 use Rattle.map.specs.declared.Map.{Map}
-use Rattle.base.proofs.Tests.{first, second, third}
+use Rattle.base.proofs.Tests.{both}
+use Rattle.base.proofs.OrderLaws.{passed}
+use Rattle.base.specs.Order.{_when_}
 use Rattle.map.proofs.Laws.{valid-length, region-last}
 use Rattle.map.proofs.KeptLaws.{Eight, eight-region, region-kept}
 use Rattle.memory.specs.Bytes.{Lent}
 use Rattle.memory.specs.Words.{wordStored, storeWord, isDone}
-use Rattle.memory.specs.Program.{words, storeWords, loadNumber, begins, loadBytes, loadMap}
+use Rattle.memory.specs.Program.{words, storeWords, loadOrder, loadNumber, begins, loadBytes, loadMap}
 use Rattle.memory.proofs.Laws.{SameLengths, same-lengths, then-lengths}
 use Rattle.memory.proofs.WordLaws.{word-lengths}
 
@@ -40,63 +42,60 @@ module _ (m : Map) (s : Lent) (program : List ℕ) where
   -- a load changes no length
   pub load-lengths : SameLengths (loadBytes m s program) s
   unfolding loadBytes
-  load-lengths = go (begins m s program)
+  load-lengths = go (valid m (s .dev) && begins m program)
     where
       go : (t : Bool) → SameLengths (cond t (storeWords m s 0 program .bytes) s) s
       go true = words-lengths m program s 0
       go false = same-lengths s
 
+  -- one that is accepted may add its region
+  load-taken : eqb (loadNumber m s program) 0 ≡ true → eqb (regionNumber m (region 0 (length program))) 0 ≡ true
+  unfolding loadNumber loadOrder
+  load-taken a =
+      let t = passed (1 when not (valid m (s .dev)) ∷ loadOrder m s program) a in
+      let h = ltb-false 32768 (length program) (t .1 .0) in
+      rw (region-last m (region 0 (length program)) (omega arith) (leb-false 8 (m .regions) (t .1 .1 .0)), t .1 .1 .1 .1 .0)
+
   module _ (e : Eight m) where
     -- the tables keep their eight entries
     pub eight-load : Eight (loadMap m s program)
     unfolding loadMap
-    eight-load = go (begins m s program && storeWords m s 0 program .all)
+    eight-load = go (eqb (loadNumber m s program) 0)
       where
-        go : (t : Bool) → Eight (cond t (regionMap m (region 0 (length program))) m)
+        go : (t : Bool) → Eight (cond t (withRegion m (region 0 (length program))) m)
         go true = eight-region m e (region 0 (length program))
         go false = e
 
     -- and stay valid
     pub load-kept : valid m (s .dev) ≡ true → valid (loadMap m s program) (loadBytes m s program .dev) ≡ true
     unfolding loadMap
-    load-kept v = valid-length (loadMap m s program) (loadBytes m s program .dev) (s .dev) (load-lengths .dev) ∙ go (begins m s program && storeWords m s 0 program .all)
+    load-kept v = valid-length (loadMap m s program) (loadBytes m s program .dev) (s .dev) (load-lengths .dev) ∙ go (eqb (loadNumber m s program) 0) refl
       where
-        go : (t : Bool) → valid (cond t (regionMap m (region 0 (length program))) m) (s .dev) ≡ true
-        go true = region-kept m e (s .dev) v (region 0 (length program))
-        go false = v
+        go : (t : Bool) → eqb (loadNumber m s program) 0 ≡ t → valid (cond t (withRegion m (region 0 (length program))) m) (s .dev) ≡ true
+        go true a = region-kept m e (s .dev) v (region 0 (length program)) (load-taken a)
+        go false a = v
 
-  -- a load that does not begin changes nothing
-  pub load-nothing : begins m s program ≡ false → (loadMap m s program ≡ m) × (loadBytes m s program ≡ s)
-  unfolding loadMap loadBytes
-  load-nothing h = (rw h, rw h)
+  module _ (v : valid m (s .dev) ≡ true) where
+    -- after its words a load of a valid map is refused with 13 alone
+    pub load-last : begins m program ≡ true → storeWords m s 0 program .all ≡ true → loadNumber m s program ≡ cond (any (regionsOverlap (region 0 (length program))) (usedRegions m)) 13 0
+    unfolding loadNumber loadOrder begins
+    load-last b g =
+        let h = both (leb (length program) 32768) (ltb (m .regions) 8) b in
+        rw (v, le-ltb 32768 (length program) (leb-true (length program) 32768 (h .0)), lt-leb 8 (m .regions) (ltb-true (m .regions) 8 (h .1)), g)
 
-  -- once every word is stored, the answer is 13 where the new region overlaps one, else accepted
-  pub load-last : begins m s program ≡ true → storeWords m s 0 program .all ≡ true → loadNumber m s program ≡ cond (any (regionsOverlap (region 0 (length program))) (usedRegions m)) 13 0
-  unfolding loadNumber begins
-  load-last b g =
-      let v = first (valid m (s .dev)) (leb (length program) 32768) (ltb (m .regions) 8) b in
-      let h = leb-true (length program) 32768 (second (valid m (s .dev)) (leb (length program) 32768) (ltb (m .regions) 8) b) in
-      let f = ltb-true (m .regions) 8 (third (valid m (s .dev)) (leb (length program) 32768) (ltb (m .regions) 8) b) in
-      rw (v, le-ltb 32768 (length program) h, lt-leb 8 (m .regions) f, g) (region-last m (region 0 (length program)) (omega arith) f)
-
-  -- of a valid map: it begins exactly where the answer is neither 16 nor 14, since none of the later answers is
-  pub begins-by-number : valid m (s .dev) ≡ true → begins m s program ≡ past (loadNumber m s program)
-  unfolding loadNumber begins
-  begins-by-number v = go (leb (length program) 32768) (ltb (m .regions) 8) (storeWords m s 0 program .all) refl refl refl
-    where
-      last : (t : Bool) → past (cond t 13 0) ≡ true
-      last true = refl
-      last false = refl
-
-      go : (t u w : Bool) → leb (length program) 32768 ≡ t → ltb (m .regions) 8 ≡ u → storeWords m s 0 program .all ≡ w
-          → begins m s program ≡ past (loadNumber m s program)
-      go false u w a b g = rw (v, lt-ltb 32768 (length program) (leb-false (length program) 32768 a), a)
-      go true false w a b g =
-          let h = le-ltb 32768 (length program) (leb-true (length program) 32768 a) in
-          rw (v, h, le-leb 8 (m .regions) (ltb-false (m .regions) 8 b), a, b)
-      go true true false a b g =
-          let h = le-ltb 32768 (length program) (leb-true (length program) 32768 a) in
-          rw (v, h, lt-leb 8 (m .regions) (ltb-true (m .regions) 8 b), a, b, g)
-      go true true true a b g =
-          let y : begins m s program ≡ true = rw (v, a, b) in
-          y ∙ sym (ap past (load-last y g) ∙ last (any (regionsOverlap (region 0 (length program))) (usedRegions m)))
+    -- it begins exactly where the answer is neither 16 nor 14, since none of the later answers is
+    pub begins-by-number : begins m program ≡ past (loadNumber m s program)
+    unfolding loadNumber loadOrder begins
+    begins-by-number = go (leb (length program) 32768) (ltb (m .regions) 8) (storeWords m s 0 program .all) (any (regionsOverlap (region 0 (length program))) (usedRegions m)) refl refl refl refl
+      where
+        go : (t u w x : Bool) → leb (length program) 32768 ≡ t → ltb (m .regions) 8 ≡ u → storeWords m s 0 program .all ≡ w
+            → any (regionsOverlap (region 0 (length program))) (usedRegions m) ≡ x → begins m program ≡ past (loadNumber m s program)
+        go false u w x a b g k = rw (v, lt-ltb 32768 (length program) (leb-false (length program) 32768 a), a)
+        go true false w x a b g k =
+            rw (v, le-ltb 32768 (length program) (leb-true (length program) 32768 a), le-leb 8 (m .regions) (ltb-false (m .regions) 8 b), a, b)
+        go true true false x a b g k =
+            rw (v, le-ltb 32768 (length program) (leb-true (length program) 32768 a), lt-leb 8 (m .regions) (ltb-true (m .regions) 8 b), a, b, g)
+        go true true true true a b g k =
+            rw (v, le-ltb 32768 (length program) (leb-true (length program) 32768 a), lt-leb 8 (m .regions) (ltb-true (m .regions) 8 b), a, b, g, k)
+        go true true true false a b g k =
+            rw (v, le-ltb 32768 (length program) (leb-true (length program) 32768 a), lt-leb 8 (m .regions) (ltb-true (m .regions) 8 b), a, b, g, k)

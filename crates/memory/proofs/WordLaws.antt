@@ -6,26 +6,23 @@ use native.Mathlib.Omega.{arith}
 use lib.ListN.{length, getD}
 use Rattle.base.specs.Addresses.{secondAddress}
 use Rattle.base.specs.Choice.{cond}
+use Rattle.base.specs.Told.{Told, is, no}
 use Rattle.base.specs.Words.{wordOf, lowOf, highOf}
 use Rattle.base.specs.declared.addresses.Reached.{Reached}
 use Rattle.base.specs.declared.addresses.Reached.the-variants.{At, Past}
-use Rattle.base.specs.declared.refusals.Refusal.the-variants.{AddressOverflow}
 use Rattle.base.proofs.AddressLaws.{reached-at, reached-is}
 use Rattle.map.specs.Places.{linearWord}
 use Rattle.map.specs.declared.Map.{Map}
 use Rattle.map.specs.declared.Place.the-variants.{Linear}
 use Rattle.map.proofs.Laws.{linear-second, linear-low, linear-high, linear-below}
 use Rattle.memory.specs.Bytes.{Lent, placeIn, readByte, takes, storeByte}
-use Rattle.memory.specs.Words.{joined, readHigh, readWord, byteStored, highStored, wordStored, storeBoth, storeWord}
+use Rattle.memory.specs.Words.{aWord, joined, readHigh, readWord, Ending, done, failed, byteStored, wordStored, storeBoth, storeWord}
 use Rattle.memory.specs.declared.Read.the-variants.{Byte}
-use Rattle.memory.specs.declared.Stored.{Stored}
-use Rattle.memory.specs.declared.Stored.the-variants as stored
-use Rattle.memory.specs.declared.WordRead.the-variants as word
 use Rattle.memory.proofs.Laws.{SameLengths, same-lengths, then-lengths, read-placed, store-lengths, takes-kept, refused-store, read-other, read-own}
 
 -- a word of two linear bytes is read there
 pub read-linear : (m : Map) (s : Lent) (a : ℕ) → linearWord m (length (s .mem)) a ≡ true
-    → readWord m s a ≡ word.Word (wordOf (getD (s .mem) a 0) (getD (s .mem) (a + 1) 0))
+    → readWord m s a ≡ is (aWord (wordOf (getD (s .mem) a 0) (getD (s .mem) (a + 1) 0)))
 unfolding readWord readHigh joined
 read-linear m s a e =
     let n = length (s .mem) in
@@ -35,34 +32,34 @@ read-linear m s a e =
     rw (low, reached-at (a + 1) (linear-second m n a e), high)
 
 -- what becomes of a word's store, and the bytes after it
-pub record WordStore (m : Map) (s : Lent) (a w : ℕ) (r : Stored) (t : Lent) : Type 0 where
+pub record WordStore (m : Map) (s : Lent) (a w : ℕ) (r : Told Ending) (t : Lent) : Type 0 where
   pub outcome : wordStored m s a ≡ r
   pub bytes : storeWord m s a w ≡ t
 
 module _ (m : Map) (s : Lent) (a w : ℕ) where
   -- the low byte takes no store: nothing is stored
-  pub low-fails : takes m s a ≡ false → WordStore m s a w stored.Failed s
+  pub low-fails : takes m s a ≡ false → WordStore m s a w (is failed) s
   unfolding wordStored storeWord
   low-fails h = record { outcome = rw h; bytes = rw h }
 
   module _ (h : takes m s a ≡ true) where
     -- past the last address: 3, and nothing is stored
-    pub past-end : secondAddress a ≡ Past → WordStore m s a w (stored.Refused AddressOverflow) s
-    unfolding wordStored highStored storeWord storeBoth
+    pub past-end : secondAddress a ≡ Past → WordStore m s a w (no 3) s
+    unfolding wordStored storeWord storeBoth
     past-end e = record { outcome = rw (h, e); bytes = rw (h, e) }
 
     module _ (b : ℕ) (n : secondAddress a ≡ At b) where
       -- the high byte takes no store: the low one stays
-      pub high-fails : takes m s b ≡ false → WordStore m s a w stored.Failed (storeByte m s a (lowOf w))
-      unfolding wordStored highStored byteStored storeWord storeBoth
+      pub high-fails : takes m s b ≡ false → WordStore m s a w (is failed) (storeByte m s a (lowOf w))
+      unfolding wordStored byteStored storeWord storeBoth
       high-fails k = record {
         outcome = rw (h, n, k);
         bytes = rw (h, n) (refused-store m (storeByte m s a (lowOf w)) b (highOf w) (takes-kept m s a (lowOf w) b ∙ k));
       }
 
       -- low, then high
-      pub both-stored : takes m s b ≡ true → WordStore m s a w stored.Done (storeByte m (storeByte m s a (lowOf w)) b (highOf w))
-      unfolding wordStored highStored byteStored storeWord storeBoth
+      pub both-stored : takes m s b ≡ true → WordStore m s a w (is done) (storeByte m (storeByte m s a (lowOf w)) b (highOf w))
+      unfolding wordStored byteStored storeWord storeBoth
       both-stored k = record { outcome = rw (h, n, k); bytes = rw (h, n) }
 
 both-lengths : (m : Map) (s : Lent) (a : ℕ) (second : Reached) (w : ℕ) → SameLengths (storeBoth m s a second w) s
@@ -80,7 +77,7 @@ word-lengths m s a w = go (takes m s a)
     go false = same-lengths s
 
 -- reading a word that was stored gives it
-pub read-word-own : (m : Map) (s : Lent) (a b w : ℕ) → takes m s a ≡ true → secondAddress a ≡ At b → takes m s b ≡ true → readWord m (storeWord m s a w) a ≡ word.Word w
+pub read-word-own : (m : Map) (s : Lent) (a b w : ℕ) → takes m s a ≡ true → secondAddress a ≡ At b → takes m s b ≡ true → readWord m (storeWord m s a w) a ≡ is (aWord w)
 unfolding readWord readHigh joined
 read-word-own m s a b w h n k =
     let s₁ = storeByte m s a (lowOf w) in

@@ -20,13 +20,13 @@ pub record Lent : Type 0 where
 abbrev pub lent : List ℕ → List ℕ → Lent
 lent m d = record { mem = m; dev = d }
 
--- the byte at an index, as answered by a place
-unfoldable pub answered : List ℕ → ℕ → Place → Read
-answered bytes i p = cond (ltb i (length bytes)) (Byte (getD bytes i 0) p) Unmapped
+-- the byte at an index of a buffer, which is that of the place p
+unfoldable pub readIn : List ℕ → ℕ → Place → Read
+readIn bytes i p = cond (ltb i (length bytes)) (Byte (getD bytes i 0) p) Unmapped
 
 unfoldable pub get : Place → Lent → Read
-get (Linear i) s = answered (s .mem) i (Linear i)
-get (Bank n o i) s = answered (s .dev) i (Bank n o i)
+get (Linear i) s = readIn (s .mem) i (Linear i)
+get (Bank n o i) s = readIn (s .dev) i (Bank n o i)
 get Nowhere s = Unmapped
 
 -- nothing changes past the end of the bytes that are lent

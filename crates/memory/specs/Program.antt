@@ -1,13 +1,16 @@
 -- `write_program` stores word i at 2i by the store rule, devices included, then protects (0, number of WORDS).
 use Prim.Native.Nat.{ℕ, _+_}
-use mathlib.Core.Bool.{Bool, true, false, _&&_}
+use mathlib.Core.Bool.{Bool, true, false, not, _&&_}
 use mathlib.Core.List.{List, [], _∷_}
-use lib.Dec.{leb, ltb}
+use lib.Dec.{leb, ltb, eqb}
 use lib.ListN.{length}
 use Rattle.base.specs.Choice.{cond}
+use Rattle.base.specs.Order.{Refusing, _when_, firstOf}
 use Rattle.base.specs.Words.{doubled}
+use Rattle.map.specs.Tables.{any}
+use Rattle.map.specs.Regions.{regionsOverlap, usedRegions}
 use Rattle.map.specs.Valid.{valid}
-use Rattle.map.specs.Entries.{region, regionNumber, regionMap}
+use Rattle.map.specs.Entries.{region, withRegion}
 use Rattle.map.specs.declared.Map.{Map}
 use Rattle.memory.specs.Bytes.{Lent}
 use Rattle.memory.specs.Words.{wordStored, storeWord, isDone}
@@ -27,21 +30,27 @@ storeWords m s i (w ∷ rest) =
     cond (isDone (wordStored m s (doubled i))) (storeWords m (storeWord m s (doubled i) w) (i + 1) rest)
     (words false (storeWord m s (doubled i) w))
 
--- 1, 16, 14, 15, and then 13
-unfoldable pub loadNumber : Map → Lent → List ℕ → ℕ
-loadNumber m s program =
-    cond (valid m (s .dev))
-    (cond (ltb 32768 (length program)) 16
-    (cond (leb 8 (m .regions)) 14
-    (cond (storeWords m s 0 program .all) (regionNumber m (region 0 (length program))) 15))) 1
+-- load: 16, 14, 15, 13
+unfoldable pub loadOrder : Map → Lent → List ℕ → List Refusing
+loadOrder m s program =
+    16 when ltb 32768 (length program)
+    ∷ 14 when leb 8 (m .regions)
+    ∷ 15 when not (storeWords m s 0 program .all)
+    ∷ 13 when any (regionsOverlap (region 0 (length program))) (usedRegions m)
+    ∷ []
 
--- it comes as far as storing the first word: none of 1, 16, 14
-unfoldable pub begins : Map → Lent → List ℕ → Bool
-begins m s program = valid m (s .dev) && leb (length program) 32768 && ltb (m .regions) 8
+-- 1 first
+unfoldable pub loadNumber : Map → Lent → List ℕ → ℕ
+loadNumber m s program = firstOf (1 when not (valid m (s .dev)) ∷ loadOrder m s program)
+
+-- it comes as far as storing the first word: neither 16 nor 14
+unfoldable pub begins : Map → List ℕ → Bool
+begins m program = leb (length program) 32768 && ltb (m .regions) 8
 
 -- 15 and 13 keep what was stored
 unfoldable pub loadBytes : Map → Lent → List ℕ → Lent
-loadBytes m s program = cond (begins m s program) (storeWords m s 0 program .bytes) s
+loadBytes m s program = cond (valid m (s .dev) && begins m program) (storeWords m s 0 program .bytes) s
 
+-- a refusal leaves the tables
 unfoldable pub loadMap : Map → Lent → List ℕ → Map
-loadMap m s program = cond (begins m s program && storeWords m s 0 program .all) (regionMap m (region 0 (length program))) m
+loadMap m s program = cond (eqb (loadNumber m s program) 0) (withRegion m (region 0 (length program))) m

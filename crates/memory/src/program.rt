@@ -11,11 +11,11 @@ ghost use lib.ListN.{length};
 ghost use Prim.Native.Nat.{_≤_};
 ghost use Rattle.base.specs.Numbers.{answerNumber};
 ghost use Rattle.memory.specs.Bytes.{lent};
-ghost use Rattle.memory.specs.Words.{isDone};
+ghost use Rattle.memory.specs.Words.{toldStore, isDone};
 ghost use Rattle.memory.specs.Program.{storeWords, loadNumber, loadMap, loadBytes};
 
 fn is_done(r: Stored) -> bool
-    ensures { λ t. ⌜ t ≡ isDone r ⌝ }
+    ensures { λ t. ⌜ t ≡ isDone (toldStore r) ⌝ }
 {
     match r {
         Stored::Done => true,

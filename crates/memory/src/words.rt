@@ -11,11 +11,13 @@ use base::Reached;
 use base::Refusal;
 use map::Map;
 ghost use mathlib.Core.Path.{_≡_};
+ghost use Rattle.base.specs.Told.{is};
+ghost use Rattle.base.specs.Words.{highOf};
 ghost use Rattle.memory.specs.Bytes.{lent};
-ghost use Rattle.memory.specs.Words.{joined, readWord, byteDecision, wordDecision, highDecision, made, wordStored, storeWord};
+ghost use Rattle.memory.specs.Words.{toldWord, joined, readWord, toldStore, byteStored, wordStored, storeWord, decided, decides, byteDecision, highChange, wordDecision, made};
 
 fn join(low: u8, high: Read) -> WordRead
-    ensures { λ r. ⌜ r ≡ joined low high ⌝ }
+    ensures { λ r. ⌜ toldWord r ≡ is (joined low high) ⌝ }
 {
     match high {
         Read::Byte(v, _) => WordRead::Word(base::word(low, v)),
@@ -24,7 +26,7 @@ fn join(low: u8, high: Read) -> WordRead
 }
 
 pub fn read_word(m: Map, mem: &[u8], dev: &[u8], a: u16) -> WordRead
-    ensures { λ r. ⌜ r ≡ readWord m (lent (now (mem .entry)) (now (dev .entry))) a ⌝ }
+    ensures { λ r. ⌜ toldWord r ≡ readWord m (lent (now (mem .entry)) (now (dev .entry))) a ⌝ }
 {
     match read_byte(m, mem, dev, a) {
         Read::Byte(low, _) => {
@@ -39,7 +41,7 @@ pub fn read_word(m: Map, mem: &[u8], dev: &[u8], a: u16) -> WordRead
 
 // The same, faster where both bytes are linear: they are read at once.
 pub fn fetch_word(m: Map, mem: &[u8], dev: &[u8], a: u16) -> WordRead
-    ensures { λ r. ⌜ r ≡ readWord m (lent (now (mem .entry)) (now (dev .entry))) a ⌝ }
+    ensures { λ r. ⌜ toldWord r ≡ readWord m (lent (now (mem .entry)) (now (dev .entry))) a ⌝ }
 {
     if map::is_linear_word(m, mem.len(), a) {
         let i = a as usize;
@@ -54,11 +56,11 @@ pub fn fetch_word(m: Map, mem: &[u8], dev: &[u8], a: u16) -> WordRead
     }
 }
 
-// What storing a byte comes to, with mem bytes of linear memory and dev bytes in the device buffer.
-pub fn decide_byte(m: Map, mem: usize, dev: usize, a: u16, v: u8) -> Decision
-    ensures { λ d. ⌜ d ≡ byteDecision m mem dev a v ⌝ }
+// What storing a byte comes to.
+pub fn decide_byte(m: Map, mem: &[u8], dev: &[u8], a: u16, v: u8) -> Decision
+    ensures { λ d. ⌜ decided d ≡ byteDecision m (lent (now (mem .entry)) (now (dev .entry))) a v ⌝ }
 {
-    let place = map::target_of(m, mem, dev, a);
+    let place = map::target_of(m, mem.len(), dev.len(), a);
     if !map::is_somewhere(place) {
         return Decision {
             outcome: Stored::Failed,
@@ -76,11 +78,11 @@ pub fn decide_byte(m: Map, mem: usize, dev: usize, a: u16, v: u8) -> Decision
     }
 }
 
-// What storing a word comes to, over the same.
-pub fn decide_word(m: Map, mem: usize, dev: usize, a: u16, w: u16) -> Decision
-    ensures { λ d. ⌜ d ≡ wordDecision m mem dev a w ⌝ }
+// What storing a word comes to.
+pub fn decide_word(m: Map, mem: &[u8], dev: &[u8], a: u16, w: u16) -> Decision
+    ensures { λ d. ⌜ decided d ≡ wordDecision m (lent (now (mem .entry)) (now (dev .entry))) a w ⌝ }
 {
-    let place = map::target_of(m, mem, dev, a);
+    let place = map::target_of(m, mem.len(), dev.len(), a);
     if !map::is_somewhere(place) {
         return Decision {
             outcome: Stored::Failed,
@@ -102,10 +104,10 @@ pub fn decide_word(m: Map, mem: usize, dev: usize, a: u16, w: u16) -> Decision
 }
 
 // The same, once the low byte is known to be taken and the high byte to have an address.
-fn decide_high(m: Map, mem: usize, dev: usize, a: u16, w: u16, first: Change) -> Decision
-    ensures { λ d. ⌜ d ≡ highDecision m mem dev a w first ⌝ }
+fn decide_high(m: Map, mem: &[u8], dev: &[u8], a: u16, w: u16, first: Change) -> Decision
+    ensures { λ d. ⌜ decided d ≡ decides (is (byteStored m (lent (now (mem .entry)) (now (dev .entry))) a)) (highChange m (lent (now (mem .entry)) (now (dev .entry))) a (highOf w) first) ⌝ }
 {
-    let place = map::target_of(m, mem, dev, a);
+    let place = map::target_of(m, mem.len(), dev.len(), a);
     if !map::is_somewhere(place) {
         return Decision {
             outcome: Stored::Failed,
@@ -144,10 +146,10 @@ pub fn make(c: Changes, mem: &mut [u8], dev: &mut [u8])
 
 // Stores a word, low byte first; where the high byte takes no store the low one stays.
 pub fn store_word(m: Map, mem: &mut [u8], dev: &mut [u8], a: u16, w: u16) -> Stored
-    ensures { λ r. ⌜ r ≡ wordStored m (lent (now (mem .entry)) (now (dev .entry))) a ⌝ }
+    ensures { λ r. ⌜ toldStore r ≡ wordStored m (lent (now (mem .entry)) (now (dev .entry))) a ⌝ }
     ensures { λ _. ⌜ lent (now (mem .exit)) (now (dev .exit)) ≡ storeWord m (lent (now (mem .entry)) (now (dev .entry))) a w ⌝ }
 {
-    let d = decide_word(m, mem.len(), dev.len(), a, w);
+    let d = decide_word(m, &mem[..], &dev[..], a, w);
     let c = d.changes;
     make(c, mem, dev);
     d.outcome

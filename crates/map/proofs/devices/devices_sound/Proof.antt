@@ -5,7 +5,7 @@ use native.Mathlib.Omega.{arith}
 use borrow.Author.Tests.{not-true, not-false}
 use lib.ListN.{length, drop}
 use Rattle.map.specs.Tables.{sound}
-use Rattle.map.specs.Devices.{deviceForward, devicesOverlap, usedDevices}
+use Rattle.map.specs.Devices.{deviceInRange, devicesOverlap, usedDevices}
 use Rattle.map.specs.Entries.{device}
 use Rattle.map.proofs.Scans.{mapped, sound-wrong, sound-met, sound-next, sound-end}
 use borrow.Author.Needs.{needs}
@@ -13,7 +13,7 @@ use Rattle.map.proofs.devices.devices_sound.Statement.{statement}
 use Rattle.map.proofs.devices.devices_sound.Tie as tie
 
 abbrev Inv-loop : tie.InvT-loop
-Inv-loop m n i₀ i = sound deviceForward devicesOverlap (usedDevices m) ≡ sound deviceForward devicesOverlap (drop i (usedDevices m))
+Inv-loop m n i₀ i = sound deviceInRange devicesOverlap (usedDevices m) ≡ sound deviceInRange devicesOverlap (drop i (usedDevices m))
 
 abbrev μ-loop : tie.MeasureT-loop
 μ-loop m n i₀ i = n - i
@@ -34,8 +34,8 @@ mul-d c = search needs
 element-copy-out-d : tie.Need-element-copy-out-d Inv-loop μ-loop
 element-copy-out-d c = search needs
 
-device-forward-requires : tie.Need-device-forward-requires Inv-loop μ-loop
-device-forward-requires c κs = search needs
+device-in-range-requires : tie.Need-device-in-range-requires Inv-loop μ-loop
+device-in-range-requires c κs = search needs
 
 returns : tie.Need-returns Inv-loop μ-loop
 unfolding usedDevices
@@ -45,7 +45,7 @@ returns c =
     let l = s .args .t1 .device in
     let k = s .args .t1 .devices in
     sym
-    (h .loop .inv ∙ sound-wrong l k (h .loop .i) (long s) deviceForward devicesOverlap (device 0 0) (omega arith) (sym (c .before .device-forward .ensures) ∙ not-true _ (c .if1 .taken)))
+    (h .loop .inv ∙ sound-wrong l k (h .loop .i) (long s) deviceInRange devicesOverlap (device 0 0) (omega arith) (sym (c .before .device-in-range .ensures) ∙ not-true _ (c .if1 .taken)))
 
 add-device-meets : tie.Need-add-device-meets Inv-loop μ-loop
 add-device-meets c = search needs
@@ -61,7 +61,7 @@ returns-2 c =
     let l = s .args .t1 .device in
     let k = s .args .t1 .devices in
     sym
-    (h .loop .inv ∙ sound-met l k (h .loop .i) (long s) deviceForward devicesOverlap (device 0 0) (omega arith) (sym (c .before .device-meets .ensures) ∙ c .if2 .taken))
+    (h .loop .inv ∙ sound-met l k (h .loop .i) (long s) deviceInRange devicesOverlap (device 0 0) (omega arith) (sym (c .before .device-meets .ensures) ∙ c .if2 .taken))
 
 add-i : tie.Need-add-i Inv-loop μ-loop
 add-i c = search needs
@@ -76,8 +76,8 @@ loop-again c =
     let s = c .before .before .before .before .before .before .before .before in
     let l = s .args .t1 .device in
     let k = s .args .t1 .devices in
-    h .loop .inv ∙ sound-next l k (h .loop .i) (long s) deviceForward devicesOverlap (device 0 0) (omega arith)
-    (sym (c .before .before .before .device-forward .ensures) ∙ not-false _ (c .before .before .if1 .left))
+    h .loop .inv ∙ sound-next l k (h .loop .i) (long s) deviceInRange devicesOverlap (device 0 0) (omega arith)
+    (sym (c .before .before .before .device-in-range .ensures) ∙ not-false _ (c .before .before .if1 .left))
     (sym (c .before .device-meets .ensures) ∙ c .if2 .left)
 
 returns-3 : tie.Need-returns-3 Inv-loop μ-loop
@@ -86,7 +86,7 @@ returns-3 c =
     let s = c .before .before .before in
     let l = s .args .t1 .device in
     let k = s .args .t1 .devices in
-    sym (c .before .loop .inv ∙ sound-end l k (c .before .loop .i) (long s) deviceForward devicesOverlap (omega arith))
+    sym (c .before .loop .inv ∙ sound-end l k (c .before .loop .i) (long s) deviceInRange devicesOverlap (omega arith))
 
 pub devices-sound-spec : {M : Type 1} → statement M
 devices-sound-spec =
@@ -98,7 +98,7 @@ devices-sound-spec =
     loop-holds
     mul-d
     element-copy-out-d
-    device-forward-requires
+    device-in-range-requires
     returns
     add-device-meets
     device-meets-requires

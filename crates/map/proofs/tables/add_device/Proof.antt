@@ -16,7 +16,7 @@ refused-requires c κs = search needs
 returns : tie.Need-returns
 returns c =
     let s = c .before .before .before in
-    let l = device-13 (s .args .m) (s .args .room) (s .args .d) (sym (c .before .before .device-meets .ensures) ∙ c .before .if1 .taken) in
+    let l = device-13 (s .args .m) (s .args .room) (s .args .d) (omega arith) (sym (c .before .before .device-meets .ensures) ∙ c .before .if1 .taken) in
     (c .refused .ensures .0 ∙ l .0, c .refused .ensures .1 ∙ l .1)
 
 cast-n : tie.Need-cast-n
@@ -28,7 +28,7 @@ refused-requires-2 c κs = search needs
 returns-2 : tie.Need-returns-2
 returns-2 c =
     let s = c .before .before .before .before .before in
-    let l = device-14 (s .args .m) (s .args .room) (s .args .d)
+    let l = device-14 (s .args .m) (s .args .room) (s .args .d) (omega arith)
     (sym (c .before .before .before .before .device-meets .ensures) ∙ c .before .before .before .if1 .left) (omega arith) in
     (c .refused2 .ensures .0 ∙ l .0, c .refused2 .ensures .1 ∙ l .1)
 
@@ -47,7 +47,7 @@ refused-requires-3 c κs = search needs
 returns-3 : tie.Need-returns-3
 returns-3 c =
     let s = c .before .before .before .before .before .before .before .before in
-    let l = device-17 (s .args .m) (s .args .room) (s .args .d)
+    let l = device-17 (s .args .m) (s .args .room) (s .args .d) (omega arith)
     (sym (c .before .before .before .before .before .before .before .device-meets .ensures) ∙ c .before .before .before .before .before .before .if1 .left)
     (omega arith) (omega arith) in
     (c .refused3 .ensures .0 ∙ l .0, c .refused3 .ensures .1 ∙ l .1)
@@ -65,7 +65,7 @@ returns-4 : tie.Need-returns-4
 unfolding withDevice
 returns-4 c =
     let s = c .before .before .before .before .before .before .before .before in
-    device-0 (s .args .m) (s .args .room) (s .args .d)
+    device-0 (s .args .m) (s .args .room) (s .args .d) (omega arith)
     (sym (c .before .before .before .before .before .before .before .device-meets .ensures) ∙ c .before .before .before .before .before .before .if1 .left)
     (omega arith) (omega arith)
 

@@ -43,7 +43,7 @@ returns-3 : tie.Need-returns-3
 returns-3 c =
     let s = c .before .before .before .before .before in
     let l = register-valid (s .args .m) (now (s .args .dev)) (s .args .start) (s .args .size)
-    (sym (c .before .before .before .valid .ensures) ∙ not-false _ (c .before .before .if1 .left)) (omega arith) in
+    (sym (c .before .before .before .valid .ensures) ∙ not-false _ (c .before .before .if1 .left)) in
     (c .add-device .ensures .0 ∙ l .0, c .add-device .ensures .1 ∙ l .1)
 
 pub register-device-spec : {M : Type 1} → statement M

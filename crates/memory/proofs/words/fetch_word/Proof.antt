@@ -1,5 +1,5 @@
 -- Where both bytes are linear, the word is that of the two bytes there. Assumes nothing.
-use mathlib.Core.Path.{_≡_, sym, _∙_}
+use mathlib.Core.Path.{_≡_, sym, ap, _∙_}
 use mathlib.Core.Bool.{true}
 use Prim.Native.Nat.{_+_, _<_}
 use native.Mathlib.Omega.{arith}
@@ -8,6 +8,7 @@ use lib.ListN.{length}
 use Rattle.map.specs.Places.{linearWord}
 use Rattle.map.proofs.Laws.{linear-below}
 use Rattle.memory.specs.Bytes.{lent}
+use Rattle.memory.specs.Words.{toldWord}
 use Rattle.memory.proofs.WordLaws.{read-linear}
 use borrow.Author.Needs.{needs}
 use Rattle.memory.proofs.words.fetch_word.Statement.{statement}
@@ -57,13 +58,13 @@ enum-known-e : tie.Need-enum-known-e
 enum-known-e c = search needs
 
 returns-2 : tie.Need-returns-2
-returns-2 c = sym (c .before .w .given .1) ∙ c .before .before .before .read-word .ensures
+returns-2 c = ap toldWord (sym (c .before .w .given .1)) ∙ c .before .before .before .read-word .ensures
 
 returns-3 : tie.Need-returns-3
-returns-3 c = sym (c .enum-told .given .1) ∙ c .before .before .read-word .ensures
+returns-3 c = ap toldWord (sym (c .enum-told .given .1)) ∙ c .before .before .read-word .ensures
 
 returns-4 : tie.Need-returns-4
-returns-4 c = sym (c .before .e .given .1) ∙ c .before .before .before .read-word .ensures
+returns-4 c = ap toldWord (sym (c .before .e .given .1)) ∙ c .before .before .before .read-word .ensures
 
 pub fetch-word-spec : {M : Type 1} → statement M
 fetch-word-spec =

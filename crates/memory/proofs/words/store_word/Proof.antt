@@ -1,9 +1,8 @@
 -- What was decided is made, and that is the word's store. Assumes nothing.
 use mathlib.Core.Path.{ap, _∙_}
-use Rattle.memory.specs.declared.Decision.{Decision}
 use denote.Ref.{now}
 use Rattle.memory.specs.Bytes.{lent}
-use Rattle.memory.specs.Words.{made}
+use Rattle.memory.specs.Words.{Decided, wordDecision, made}
 use Rattle.memory.proofs.Decisions.{decision-makes}
 use borrow.Author.Needs.{needs}
 use Rattle.memory.proofs.words.store_word.Statement.{statement}
@@ -22,13 +21,14 @@ same-length-2 : tie.Need-same-length-2
 same-length-2 c = c .before .before .before .before .make .kept .1 .1 .0
 
 returns : tie.Need-returns
+unfolding wordDecision
 returns c =
-    let s = c .before .before .before .before .before .before .before .before .before .before in
+    let s = c .before .before .before .before .before .before .before .before .before .before .before .before in
     let d = c .before .before .before .before .before .before .before .decide-word in
     let bytes = lent (now (s .args .mem)) (now (s .args .dev)) in
-    let l = decision-makes (s .args .m) bytes (s .args .a) (s .args .w) in (
-      ap (λ (x : Decision). x .outcome) (d .ensures) ∙ l .outcome,
-      c .before .before .before .before .make .ensures ∙ ap (λ (x : Decision). made (x .changes) bytes) (d .ensures) ∙ l .bytes,
+    (
+      ap (λ (x : Decided). x .outcome) (d .ensures),
+      c .before .before .before .before .make .ensures ∙ ap (λ (x : Decided). made (x .changes) bytes) (d .ensures) ∙ decision-makes (s .args .m) bytes (s .args .a) (s .args .w),
     )
 
 pub store-word-spec : {M : Type 1} → statement M
