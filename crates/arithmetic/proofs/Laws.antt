@@ -22,7 +22,7 @@ use Rattle.instruction.specs.declared.ArithmeticOp.the-variants as seven
 use Rattle.arithmetic.specs.declared.Total.{Total}
 use Rattle.arithmetic.specs.declared.Total.the-variants.{Is, Refused}
 use Rattle.arithmetic.specs.Totals.{total, fitted, sum, difference, product, quotient, remainder, power}
-use Rattle.arithmetic.specs.Operators.{arithOf, arithmeticOf}
+use Rattle.arithmetic.specs.Operators.{arithResult, arithmeticResult}
 use Rattle.arithmetic.specs.Shifts.{shifted, moved}
 use Rattle.arithmetic.specs.Roots.{rootUpTo, root}
 
@@ -141,15 +141,15 @@ module _ (a b v : ℕ) where
     unfolding remainder
     remainder-fits e = subst⁻¹ (λ (n : ℕ). n < 65536) (other-value (eqb b 0) (a % b) 8 v e) (lt-of-le-of-lt (mod-le a b) h)
 
-pub arith-fits : (op : ArithOp) (a b v : ℕ) → a < 65536 → arithOf op a b ≡ is v → v < 65536
-unfolding arithOf
+pub arith-fits : (op : ArithOp) (a b v : ℕ) → a < 65536 → arithResult op a b ≡ is v → v < 65536
+unfolding arithResult
 arith-fits four.Add a b v h = sum-fits a b v
 arith-fits four.Sub a b v h = difference-fits a b v h
 arith-fits four.Mul a b v h = product-fits a b v
 arith-fits four.Div a b v h = quotient-fits a b v h
 
-pub arithmetic-fits : (op : ArithmeticOp) (a b v : ℕ) → a < 65536 → arithmeticOf op a b ≡ is v → v < 65536
-unfolding arithmeticOf
+pub arithmetic-fits : (op : ArithmeticOp) (a b v : ℕ) → a < 65536 → arithmeticResult op a b ≡ is v → v < 65536
+unfolding arithmeticResult
 arithmetic-fits seven.Add a b v h = sum-fits a b v
 arithmetic-fits seven.Sub a b v h = difference-fits a b v h
 arithmetic-fits seven.Mul a b v h = product-fits a b v

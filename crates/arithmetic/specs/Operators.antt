@@ -8,17 +8,17 @@ use Rattle.instruction.specs.declared.ArithmeticOp.the-variants as seven
 use Rattle.arithmetic.specs.Totals.{sum, difference, product, quotient, remainder, power}
 use Rattle.arithmetic.specs.Roots.{root}
 
-unfoldable pub arithOf : ArithOp → ℕ → ℕ → Told ℕ
-arithOf four.Add a b = sum a b
-arithOf four.Sub a b = difference a b
-arithOf four.Mul a b = product a b
-arithOf four.Div a b = quotient a b
+unfoldable pub arithResult : ArithOp → ℕ → ℕ → Told ℕ
+arithResult four.Add a b = sum a b
+arithResult four.Sub a b = difference a b
+arithResult four.Mul a b = product a b
+arithResult four.Div a b = quotient a b
 
-unfoldable pub arithmeticOf : ArithmeticOp → ℕ → ℕ → Told ℕ
-arithmeticOf seven.Add a b = sum a b
-arithmeticOf seven.Sub a b = difference a b
-arithmeticOf seven.Mul a b = product a b
-arithmeticOf seven.Div a b = quotient a b
-arithmeticOf seven.Mod a b = remainder a b
-arithmeticOf seven.Exp a b = power a b
-arithmeticOf seven.Sqrt a b = is (root a)
+unfoldable pub arithmeticResult : ArithmeticOp → ℕ → ℕ → Told ℕ
+arithmeticResult seven.Add a b = sum a b
+arithmeticResult seven.Sub a b = difference a b
+arithmeticResult seven.Mul a b = product a b
+arithmeticResult seven.Div a b = quotient a b
+arithmeticResult seven.Mod a b = remainder a b
+arithmeticResult seven.Exp a b = power a b
+arithmeticResult seven.Sqrt a b = is (root a)

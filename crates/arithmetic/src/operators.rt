@@ -11,11 +11,11 @@ use instruction::ArithOp;
 use instruction::ArithmeticOp;
 ghost use mathlib.Core.Path.{_≡_};
 ghost use Rattle.arithmetic.specs.Totals.{total};
-ghost use Rattle.arithmetic.specs.Operators.{arithOf, arithmeticOf};
+ghost use Rattle.arithmetic.specs.Operators.{arithResult, arithmeticResult};
 
 // Arith's.
 pub fn arith(op: ArithOp, a: u16, b: u16) -> Total
-    ensures { λ r. ⌜ total r ≡ arithOf op a b ⌝ }
+    ensures { λ r. ⌜ total r ≡ arithResult op a b ⌝ }
 {
     match op {
         ArithOp::Add => sum(a, b),
@@ -27,7 +27,7 @@ pub fn arith(op: ArithOp, a: u16, b: u16) -> Total
 
 // ArithRegReg's. A root is of the first number, and ignores the second.
 pub fn arithmetic(op: ArithmeticOp, a: u16, b: u16) -> Total
-    ensures { λ r. ⌜ total r ≡ arithmeticOf op a b ⌝ }
+    ensures { λ r. ⌜ total r ≡ arithmeticResult op a b ⌝ }
 {
     match op {
         ArithmeticOp::Add => sum(a, b),

@@ -1,6 +1,6 @@
 -- What a word says, by its low four bits. Bits not named are ignored; register-mode 5 decodes to Jmp.
 use Prim.Native.Nat.{ℕ, _+_}
-use mathlib.Core.Bool.{Bool}
+use mathlib.Core.Bool.{Bool, true, false}
 use mathlib.Core.List.{List, [], _∷_}
 use lib.ListN.{getD}
 use lib.Dec.{eqb, ltb}
@@ -34,9 +34,12 @@ abbrev pub operandAt : ℕ → ℕ → ℕ → Operand
 operandAt w at width = cond (bitAt w at) (Reg (registerAt w (at + 1))) (Imm (fieldOf w (at + 1) width))
 
 -- 5 in register mode is a Jmp
+abbrev pub jumpsAlways : Operand → Bool
+jumpsAlways (Reg r) = true
+jumpsAlways (Imm v) = false
+
 abbrev pub conditional : Operand → Instruction
-conditional (Reg r) = Jmp (Reg r)
-conditional (Imm v) = CondJmp (Imm v)
+conditional o = cond (jumpsAlways o) (Jmp o) (CondJmp o)
 
 -- the arms by the low four bits, 0 to 11; compare 6 and 7 are refused with 5, operator 7 of ArithRegReg with 6
 unfoldable pub arms : ℕ → List (Told Instruction)

@@ -2,10 +2,8 @@
 // The kinds of field are public for the machine, which acts on a word without making an Instruction of it.
 ghost use mathlib.Core.Path.{_≡_};
 ghost use Prim.Native.Nat.{_<_, _≤_};
-ghost use Rattle.base.specs.Choice.{cond};
 ghost use Rattle.fields.specs.Fields.{fieldOf};
-ghost use Rattle.instruction.specs.Decode.{told, registerAt, bitAt, operandAt, conditional, arm, decode};
-ghost use Rattle.instruction.specs.declared.Instruction.the-variants.{Jmp, CondJmp};
+ghost use Rattle.instruction.specs.Decode.{told, registerAt, bitAt, operandAt, jumpsAlways, arm, decode};
 use crate::Decoded;
 use crate::Instruction;
 use crate::Operand;
@@ -93,7 +91,7 @@ fn ldr_str(w: u16) -> Decoded
 
 // 5 in register mode is a Jmp, as document 01 has it: no word says a CondJmp to a register. Only this function knows.
 pub fn jumps_always(o: Operand) -> bool
-    ensures { λ r. ⌜ conditional o ≡ cond r (Jmp o) (CondJmp o) ⌝ }
+    ensures { λ r. ⌜ r ≡ jumpsAlways o ⌝ }
 {
     match o {
         Operand::Reg(_) => true,

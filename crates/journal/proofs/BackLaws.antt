@@ -2,7 +2,7 @@
 -- keeps lengths, tables and slots; and that a refused forget changes nothing. Assumes nothing.
 use Prim.Native.Nat.{ℕ, _+_, _<_}
 use mathlib.Core.Path.{_≡_, refl, _∙_, subst⁻¹}
-use mathlib.Core.Bool.{Bool, true, false}
+use mathlib.Core.Bool.{Bool, true, false, not}
 use mathlib.Core.List.{List}
 use lib.Dec.{eqb}
 use lib.ListN.{length}
@@ -18,7 +18,7 @@ use Rattle.records.specs.declared.Record.{Record}
 use Rattle.records.proofs.Laws.{record-eight}
 use Rattle.records.proofs.Ring.{before-lt}
 use Rattle.journal.specs.States.{Whole, valid, validWhole, emptied}
-use Rattle.journal.specs.Back.{Answered, answered, usedBy, fits, restored, newest, with, undone, undoing, stepBack, forgetNumber, forgotten}
+use Rattle.journal.specs.Back.{Backed, backed, usedBy, fits, restored, newest, with, undone, backOrder, backNumber, stepBack, forgetNumber, forgotten}
 use Rattle.journal.specs.declared.State.{State}
 use Rattle.journal.specs.declared.Used.{Used}
 use Rattle.journal.specs.declared.Used.the-variants.{Neither, First, Both, Unknown}
@@ -41,27 +41,27 @@ restored-lengths m b r Unknown = same-lengths b
 module _ (w : Whole) where
   -- ---- the four answers
 
-  pub back-invalid : validWhole w ≡ false → stepBack w ≡ answered 1 w
-  unfolding stepBack
+  pub back-invalid : validWhole w ≡ false → stepBack w ≡ backed 1 w
+  unfolding stepBack backNumber
   back-invalid h = rw h
 
   module _ (h : validWhole w ≡ true) where
-    pub back-none : w .state .held ≡ 0 → stepBack w ≡ answered 10 w
-    unfolding stepBack
+    pub back-none : w .state .held ≡ 0 → stepBack w ≡ backed 10 w
+    unfolding stepBack backNumber backOrder
     back-none z = rw (h, eq-eqb (w .state .held) 0 z)
 
     module _ (n : w .state .held ≡ 0 → ⊥) where
-      pub back-unfit : fitting w (newest w) ≡ false → stepBack w ≡ answered 11 w
-      unfolding stepBack undoing
+      pub back-unfit : fitting w (newest w) ≡ false → stepBack w ≡ backed 11 w
+      unfolding stepBack backNumber backOrder
       back-unfit f = rw (h, ne-eqb (w .state .held) 0 n, f)
 
-      pub back-undone : fitting w (newest w) ≡ true → stepBack w ≡ answered 0 (undone w (newest w))
-      unfolding stepBack undoing
+      pub back-undone : fitting w (newest w) ≡ true → stepBack w ≡ backed 0 (undone w (newest w))
+      unfolding stepBack backNumber backOrder
       back-undone f = rw (h, ne-eqb (w .state .held) 0 n, f)
 
   -- what holds of each holds of a step-back
-  module _ (P : Answered → Type 0) (refused : (n : ℕ) → (n ≡ 0 → ⊥) → P (answered n w))
-      (accepted : validWhole w ≡ true → (w .state .held ≡ 0 → ⊥) → P (answered 0 (undone w (newest w)))) where
+  module _ (P : Backed → Type 0) (refused : (n : ℕ) → (n ≡ 0 → ⊥) → P (backed n w))
+      (accepted : validWhole w ≡ true → (w .state .held ≡ 0 → ⊥) → P (backed 0 (undone w (newest w)))) where
     pub every-back : P (stepBack w)
     every-back = go (validWhole w) refl
       where
@@ -81,14 +81,14 @@ module _ (w : Whole) where
 
   pub back-kept : (stepBack w .number ≡ 0 → ⊥) → stepBack w .whole ≡ w
   back-kept =
-      every-back (λ (x : Answered). (x .number ≡ 0 → ⊥) → x .whole ≡ w) (λ n k f. refl) (λ h k f. absurd (f refl))
+      every-back (λ (x : Backed). (x .number ≡ 0 → ⊥) → x .whole ≡ w) (λ n k f. refl) (λ h k f. absurd (f refl))
 
   -- ---- what is accepted spends a record
 
   pub back-spends : stepBack w .number ≡ 0 → stepBack w .whole .state .held + 1 ≡ w .state .held
   unfolding undone
   back-spends =
-      every-back (λ (x : Answered). x .number ≡ 0 → x .whole .state .held + 1 ≡ w .state .held) (λ n k e. absurd (k e))
+      every-back (λ (x : Backed). x .number ≡ 0 → x .whole .state .held + 1 ≡ w .state .held) (λ n k e. absurd (k e))
       (λ h k e. omega (arith, k))
 
   -- ---- what every step-back keeps
@@ -96,18 +96,18 @@ module _ (w : Whole) where
   -- the journal's bytes
   pub back-journal : stepBack w .whole .journal ≡ w .journal
   unfolding undone
-  back-journal = every-back (λ (x : Answered). x .whole .journal ≡ w .journal) (λ n k. refl) (λ h k. refl)
+  back-journal = every-back (λ (x : Backed). x .whole .journal ≡ w .journal) (λ n k. refl) (λ h k. refl)
 
   -- tables
   pub back-map : stepBack w .whole .state .machine .map ≡ w .state .machine .map
   unfolding undone
-  back-map = every-back (λ (x : Answered). x .whole .state .machine .map ≡ w .state .machine .map) (λ n k. refl) (λ h k. refl)
+  back-map = every-back (λ (x : Backed). x .whole .state .machine .map ≡ w .state .machine .map) (λ n k. refl) (λ h k. refl)
 
   -- eight registers
   pub back-eight-kept : length (w .state .machine .registers .value) ≡ 8 → length (stepBack w .whole .state .machine .registers .value) ≡ 8
   unfolding undone newest
   back-eight-kept l =
-      every-back (λ (x : Answered). length (x .whole .state .machine .registers .value) ≡ 8) (λ n k. l)
+      every-back (λ (x : Backed). length (x .whole .state .machine .registers .value) ≡ 8) (λ n k. l)
       (λ h k. record-eight (w .journal) (slotBefore (room (w .journal)) (w .state .next)))
 
   -- validity
@@ -127,7 +127,7 @@ module _ (w : Whole) where
 
   pub back-valid : validWhole w ≡ true → validWhole (stepBack w .whole) ≡ true
   back-valid h =
-      every-back (λ (x : Answered). validWhole (x .whole) ≡ true) (λ n k. h)
+      every-back (λ (x : Backed). validWhole (x .whole) ≡ true) (λ n k. h)
       (λ v k. together (undone w (newest w)) (undone-parts (newest w) (parts w h) k))
 
 -- ---- forget
@@ -136,6 +136,6 @@ pub forget-refused : (s : State) (dev journal : List ℕ) → (forgetNumber s de
 unfolding forgetNumber forgotten
 forget-refused s dev journal = go (valid s dev journal)
   where
-    go : (t : Bool) → (_≡_ {A = ℕ} (cond t 0 1) 0 → ⊥) → cond t (emptied s) s ≡ s
+    go : (t : Bool) → (_≡_ {A = ℕ} (cond (not t) 1 0) 0 → ⊥) → cond t (emptied s) s ≡ s
     go true h = absurd (h refl)
     go false h = refl

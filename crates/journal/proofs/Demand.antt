@@ -17,8 +17,8 @@ use Rattle.records.proofs.Laws.{filled-own, filled-other}
 use Rattle.records.proofs.Ring.{Behind, behind-before, behind-other, before-after, before-lt}
 use Rattle.journal.specs.States.{Whole, validWhole}
 use Rattle.journal.specs.Step.{isAccepted, moved, step}
-use Rattle.journal.specs.Back.{Answered, answered, newest, undone, stepBack}
-use Rattle.journal.specs.Demand.{Move, Step, Back, after, walk, steps, backs, Place, at, onward, alone, Starts, Demand, Demand3}
+use Rattle.journal.specs.Back.{Backed, backed, newest, undone, stepBack}
+use Rattle.journal.specs.Demand.{Move, Step, Back, afterMove, walk, steps, backs, Place, at, stepOn, alone, Starts, Demand, Demand3}
 use Rattle.journal.proofs.StateLaws.{parts, next-slot}
 use Rattle.journal.proofs.StepLaws.{own, ownRecord, withRecord, accepted-valid, step-kept, own-accepted, own-eight, accepted-step, filled-room, step-room, step-eight-kept, step-valid}
 use Rattle.journal.proofs.UndoLaws.{Point, point, Undoes, record-undoes}
@@ -92,8 +92,8 @@ Chain s (u ∷ h) t = Leads u t × Chain s h u
 abbrev placed : Point → Place
 placed t = at (t .machine) (t .bytes)
 
-leads-onward : (u t : Point) → Leads u t → onward (placed u) ≡ placed t
-unfolding Leads onward
+leads-onward : (u t : Point) → Leads u t → stepOn (placed u) ≡ placed t
+unfolding Leads stepOn
 leads-onward u t l = rw (l .0) (ap placed (l .1))
 
 chain-alone : (s : Point) (h : List Point) (t : Point) → Chain s h t → alone (length h) (s .machine) (s .bytes) ≡ placed t
@@ -183,7 +183,7 @@ module _ (s : Point) (d : ℕ) (w : Whole) (h : List Point) (v : Inv s d w h) wh
           → Holds (w .journal) (room (w .journal)) (w .state .next) (suc (w .state .held - 1)) (stands w) g → Backs
       go [] l c H = absurd H
       go (u ∷ past) l c H =
-          let q : stepBack w ≡ answered 0 (undone w (newest w)) = back-undone w (v .valid) n (H .0 .fitting) in
+          let q : stepBack w ≡ backed 0 (undone w (newest w)) = back-undone w (v .valid) n (H .0 .fitting) in
           let k : stands (undone w (newest w)) ≡ u = back-stands u (H .0) in
           record {
             past = past;
@@ -193,8 +193,8 @@ module _ (s : Point) (d : ℕ) (w : Whole) (h : List Point) (v : Inv s d w h) wh
               size = ap room (back-journal w) ∙ v .size;
               eight = back-eight-kept w (v .eight);
               valid = back-valid w (v .valid);
-              chain = subst⁻¹ (λ (x : Answered). Chain s past (stands (x .whole))) q (subst⁻¹ (Chain s past) k (c .1));
-              holds = subst⁻¹ (λ (x : Answered). Held (x .whole) past) q (back-held u past (H .0) (H .1));
+              chain = subst⁻¹ (λ (x : Backed). Chain s past (stands (x .whole))) q (subst⁻¹ (Chain s past) k (c .1));
+              holds = subst⁻¹ (λ (x : Backed). Held (x .whole) past) q (back-held u past (H .0) (H .1));
             };
           }
 
@@ -217,13 +217,13 @@ module _ (s : Point) (d : ℕ) (w : Whole) (h : List Point) (v : Inv s d w h) wh
     where
       done : (n : w .state .held ≡ 0 → ⊥) → Backs → Moved (stepBack w .whole) 0 (cond (eqb (stepBack w .number) 0) 1 0)
       done n k =
-          let z : stepBack w .number ≡ 0 = ap (λ (x : Answered). x .number) (back-undone w (v .valid) n (k .fits)) in
+          let z : stepBack w .number ≡ 0 = ap (λ (x : Backed). x .number) (back-undone w (v .valid) n (k .fits)) in
           record { past = k .past; inv = k .inv; count = rw z (omega (arith, k .longer)) }
 
       go : (t : Bool) → eqb (w .state .held) 0 ≡ t → Moved (stepBack w .whole) 0 (cond (eqb (stepBack w .number) 0) 1 0)
       go true e =
-          let q : stepBack w ≡ answered 10 w = back-none w (v .valid) (eqb-true (w .state .held) 0 e) in
-          subst⁻¹ (λ (x : Answered). Moved (x .whole) 0 (cond (eqb (x .number) 0) 1 0)) q (record { past = h; inv = v; count = refl })
+          let q : stepBack w ≡ backed 10 w = back-none w (v .valid) (eqb-true (w .state .held) 0 e) in
+          subst⁻¹ (λ (x : Backed). Moved (x .whole) 0 (cond (eqb (x .number) 0) 1 0)) q (record { past = h; inv = v; count = refl })
       go false e = let n = eqb-false (w .state .held) 0 e in done n (inv-back n)
 
 -- ---- a walk
@@ -234,7 +234,7 @@ record Ends (s : Point) (d n : ℕ) (w : Whole) (moves : List Move) : Type 0 whe
   count : length past + backs w moves ≡ n + steps w moves
 
 walk-ends : (s : Point) (d : ℕ) (moves : List Move) (w : Whole) (h : List Point) → Inv s d w h → Ends s d (length h) w moves
-unfolding walk after steps backs
+unfolding walk afterMove steps backs
 walk-ends s d [] w h v = record { past = h; inv = v; count = refl }
 walk-ends s d (Step ∷ rest) w h v =
     let k = step-moves s d w h v in
@@ -271,8 +271,8 @@ met w moves e =
       spends = back-spends v;
       step-kept = step-kept v;
       back-kept = back-kept v;
-      refused = λ z. ap (λ (x : Answered). x .number) (back-none v (i .valid) z);
-      accepted = λ k. ap (λ (x : Answered). x .number) (back-undone v (i .valid) k (back k .fits));
+      refused = λ z. ap (λ (x : Backed). x .number) (back-none v (i .valid) z);
+      accepted = λ k. ap (λ (x : Backed). x .number) (back-undone v (i .valid) k (back k .fits));
     }
 
 pub demand : Demand3

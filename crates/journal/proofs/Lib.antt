@@ -11,3 +11,4 @@ pub mod RunTurns
 pub mod RunLaws
 pub mod ReturnLaws
 pub mod MarkedLaw
+pub mod AnswerLaws

@@ -15,14 +15,13 @@ use Rattle.machine.specs.Answers.{Continue, Debug}
 use Rattle.machine.specs.Registers.{get, flag}
 use Rattle.machine.specs.Step as machine
 use Rattle.machine.proofs.Laws.{step-noop}
-use Rattle.memory.specs.Words.{readWord}
-use Rattle.memory.specs.declared.WordRead.the-variants as word
+use Rattle.memory.specs.Words.{aWord, readWord}
 use Rattle.records.specs.Slots.{room}
 use Rattle.records.proofs.Laws.{filled-own}
 use Rattle.records.proofs.Ring.{before-after}
 use Rattle.journal.specs.States.{Whole, whole, state, validWhole}
 use Rattle.journal.specs.Step.{isAccepted, step}
-use Rattle.journal.specs.Back.{answered, newest, undone, stepBack}
+use Rattle.journal.specs.Back.{backed, newest, undone, stepBack}
 use Rattle.journal.proofs.StateLaws.{parts, next-slot}
 use Rattle.journal.proofs.StepLaws.{ownRecord, withRecord, own-eight, filled-room, step-answer, step-recorded, step-valid}
 use Rattle.journal.proofs.UndoLaws.{record-undoes}
@@ -55,19 +54,19 @@ module _ (w : Whole) (l : length (w .state .machine .registers .value) ≡ 8) (h
       let u = record-undoes w h in
       rw (u .machine, u .bytes, same-room, before-after (room (w .journal)) (w .state .next) slot)
 
-  pub step-and-back : isAccepted (step w .answer) ≡ true → stepBack (step w .whole) ≡ answered 0 (returned w)
+  pub step-and-back : isAccepted (step w .answer) ≡ true → stepBack (step w .whole) ≡ backed 0 (returned w)
   step-and-back e =
       let q : step w .whole ≡ withRecord w = step-recorded w e (λ z. omega (arith, n, z)) in
       let v : validWhole (withRecord w) ≡ true = subst (λ (x : Whole). validWhole x ≡ true) q (step-valid w l h) in
       let f : fitting (withRecord w) (newest (withRecord w)) ≡ true = rw own-newest (record-undoes w h .fitting) in
       rw q
       (back-undone (withRecord w) v (λ z. omega (arith, n, z)) f
-      ∙ ap (λ (x : Whole). answered 0 x) (ap (undone (withRecord w)) own-newest ∙ own-undone))
+      ∙ ap (λ (x : Whole). backed 0 x) (ap (undone (withRecord w)) own-newest ∙ own-undone))
 
 -- ---- a Noop
 
 module _ (w : Whole) (x : ℕ) (h : validWhole w ≡ true) (f : flag (w .state .machine .registers) 0 ≡ false)
-    (r : readWord (w .state .machine .map) (w .bytes) (get (w .state .machine .registers) PC) ≡ word.Word x)
+    (r : readWord (w .state .machine .map) (w .bytes) (get (w .state .machine .registers) PC) ≡ is (aWord x))
     (d : decode x ≡ is Noop)
     (p : get (w .state .machine .registers) PC + 2 ≤ 65535) where
   pub noop-accepted : isAccepted (step w .answer) ≡ true
@@ -84,7 +83,7 @@ module _ (w : Whole) (x : ℕ) (h : validWhole w ≡ true) (f : flag (w .state .
 
   -- and nothing held is nothing held again
   pub noop-and-back : length (w .state .machine .registers .value) ≡ 8 → 0 < room (w .journal) → w .state .held ≡ 0
-      → stepBack (step w .whole) ≡ answered 0 (whole (w .state) (w .bytes) (withRecord w .journal))
+      → stepBack (step w .whole) ≡ backed 0 (whole (w .state) (w .bytes) (withRecord w .journal))
   noop-and-back l n z =
       let e : min (w .state .held + 1) (room (w .journal)) - 1 ≡ w .state .held = omega (arith, n, z) in
       step-and-back w l h n noop-accepted ∙ rw e

@@ -9,11 +9,11 @@ use Rattle.base.specs.Choice.{cond}
 use Rattle.base.specs.Told.{Told, is, no}
 use Rattle.base.proofs.ToldLaws.{is-not-no}
 use Rattle.base.proofs.Tests.{clash}
-use Rattle.machine.specs.Answers.{State, Continue, Debug, Stop}
+use Rattle.machine.specs.Answers.{Reply, Continue, Debug, Stop}
 use Rattle.journal.specs.States.{Whole, validWhole}
-use Rattle.journal.specs.Step.{After, isAccepted, step}
+use Rattle.journal.specs.Step.{Result, isAccepted, step}
 use Rattle.journal.specs.Run.{Ran, ran, oneMore, goesOn, counts, repeated, run}
-use Rattle.journal.specs.Demand.{Step, after, walk, steps}
+use Rattle.journal.specs.Demand.{Step, afterMove, walk, steps}
 use Rattle.journal.proofs.StepLaws.{invalid-step, step-kept, step-eight-kept, step-valid}
 
 -- what is said of a run of at most n steps from w
@@ -27,7 +27,7 @@ pub record Walks (w : Whole) (n : ℕ) (r : Ran) : Type 0 where
   pub stops : isAccepted (r .answer) ≡ false → step (r .whole) .answer ≡ r .answer
 
 -- no step was accepted
-none-walks : (w : Whole) (n : ℕ) (a : Told State) (v : Whole) → v ≡ w → (a ≡ is Continue → 0 ≡ n)
+none-walks : (w : Whole) (n : ℕ) (a : Told Reply) (v : Whole) → v ≡ w → (a ≡ is Continue → 0 ≡ n)
     → (isAccepted a ≡ false → step w .answer ≡ a) → Walks w n (ran a 0 v)
 unfolding walk steps
 none-walks w n a v e f g = record {
@@ -39,12 +39,12 @@ none-walks w n a v e f g = record {
 }
 
 -- what a step's answer leads to
-abbrev onward : Told State → Whole → Ran → Ran
+abbrev onward : Told Reply → Whole → Ran → Ran
 onward a w rest = cond (goesOn a) (oneMore rest) (ran a (counts a) w)
 
-onward-walks : (w : Whole) (n : ℕ) (a : Told State) → step w .answer ≡ a → (rest : Ran) → Walks (step w .whole) n rest
+onward-walks : (w : Whole) (n : ℕ) (a : Told Reply) → step w .answer ≡ a → (rest : Ran) → Walks (step w .whole) n rest
     → Walks w (suc n) (onward a (step w .whole) rest)
-unfolding goesOn counts walk after steps isAccepted
+unfolding goesOn counts walk afterMove steps isAccepted
 onward-walks w n (is Continue) e rest k = record {
   most = omega (arith, k .most);
   whole = k .whole;
@@ -88,7 +88,7 @@ module _ (n : ℕ) (w : Whole) where
       go true h = subst⁻¹ (Walks w n) (valid-run h) (repeated-walks n w)
       go false h =
           subst⁻¹ (Walks w n) (invalid-run h)
-          (none-walks w n (no 1) w refl (λ f. is-not-no Continue 1 (sym f)) (λ f. ap (λ (x : After). x .answer) (invalid-step w h)))
+          (none-walks w n (no 1) w refl (λ f. is-not-no Continue 1 (sym f)) (λ f. ap (λ (x : Result). x .answer) (invalid-step w h)))
 
   pub run-walk : run n w .whole ≡ walk w (replicate (run n w .count) Step)
   run-walk = run-walks .whole
@@ -106,7 +106,7 @@ pub record Good (w : Whole) : Type 0 where
   pub valid : validWhole w ≡ true
 
 walk-good : (n : ℕ) (w : Whole) → Good w → Good (walk w (replicate n Step))
-unfolding walk after
+unfolding walk afterMove
 walk-good zero w g = g
 walk-good (suc n) w g =
     walk-good n (step w .whole) (record { eight = step-eight-kept w (g .eight); valid = step-valid w (g .eight) (g .valid) })

@@ -6,9 +6,9 @@ use native.Mathlib.Omega.{arith}
 use Rattle.base.specs.Choice.{cond}
 use Rattle.base.specs.Told.{Told, is, no}
 use Rattle.base.proofs.Tests.{clash}
-use Rattle.machine.specs.Answers.{State, Continue, Debug, Stop}
+use Rattle.machine.specs.Answers.{Reply, Continue, Debug, Stop}
 use Rattle.journal.specs.States.{Whole, validWhole}
-use Rattle.journal.specs.Step.{After, after, step}
+use Rattle.journal.specs.Step.{Result, result, step}
 use Rattle.journal.proofs.StepLaws.{invalid-step}
 use Rattle.journal.specs.Run.{Ran, ran, oneMore, goesOn, counts, repeated, run}
 
@@ -31,13 +31,13 @@ module _ (n k : ℕ) (w v : Whole) (i : counted k (repeated (n - k) w) ≡ repea
       let f : k + 0 ≡ k = omega arith in
       ap (λ (x : ℕ). ran (is Continue) x w) (sym f) ∙ sym (ap (λ (x : ℕ). counted k (repeated x w)) e) ∙ i
 
-  module _ (h : k < n) (a : Told State) (u : Whole) (e : after a u ≡ step w) where
+  module _ (h : k < n) (a : Told Reply) (u : Whole) (e : result a u ≡ step w) where
     -- the step, and what is left after it
     stepped : counted k (cond (goesOn a) (oneMore (repeated (n - (k + 1)) u)) (ran a (counts a) u)) ≡ repeated n v
     unfolding repeated
     stepped =
         let f : n - k ≡ suc (n - (k + 1)) = omega arith in
-        ap (λ (x : After). counted k (cond (goesOn (x .answer)) (oneMore (repeated (n - (k + 1)) (x .whole))) (ran (x .answer) (counts (x .answer)) (x .whole)))) e
+        ap (λ (x : Result). counted k (cond (goesOn (x .answer)) (oneMore (repeated (n - (k + 1)) (x .whole))) (ran (x .answer) (counts (x .answer)) (x .whole)))) e
         ∙ sym (ap (λ (x : ℕ). counted k (repeated x w)) f) ∙ i
 
     -- a run that goes on, and one that ends with this step
@@ -52,18 +52,18 @@ module _ (n k : ℕ) (w v : Whole) (i : counted k (repeated (n - k) w) ≡ repea
 
 -- ---- a run of one is a step
 
-going-continues : (a : Told State) → goesOn a ≡ true → a ≡ is Continue
+going-continues : (a : Told Reply) → goesOn a ≡ true → a ≡ is Continue
 unfolding goesOn
 going-continues (is Continue) e = refl
 going-continues (is Debug) e = clash e
 going-continues (is Stop) e = clash e
 going-continues (no n) e = clash e
 
-pub run-one : (w : Whole) → after (run 1 w .answer) (run 1 w .whole) ≡ step w
+pub run-one : (w : Whole) → result (run 1 w .answer) (run 1 w .whole) ≡ step w
 unfolding run repeated
 run-one w = go (validWhole w) refl (goesOn (step w .answer)) refl
   where
-    go : (v : Bool) → validWhole w ≡ v → (g : Bool) → goesOn (step w .answer) ≡ g → after (run 1 w .answer) (run 1 w .whole) ≡ step w
+    go : (v : Bool) → validWhole w ≡ v → (g : Bool) → goesOn (step w .answer) ≡ g → result (run 1 w .answer) (run 1 w .whole) ≡ step w
     go false v g e = rw v (sym (invalid-step w v))
-    go true v true e = rw (v, e) (ap (λ (a : Told State). after a (step w .whole)) (sym (going-continues (step w .answer) e)))
+    go true v true e = rw (v, e) (ap (λ (a : Told Reply). result a (step w .whole)) (sym (going-continues (step w .answer) e)))
     go true v false e = rw (v, e)

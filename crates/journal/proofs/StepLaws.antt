@@ -23,7 +23,7 @@ use Rattle.records.specs.declared.Record.{Record}
 use Rattle.records.proofs.Laws.{room-filled}
 use Rattle.records.proofs.Ring.{after-lt}
 use Rattle.journal.specs.States.{Whole, whole, state, validWhole}
-use Rattle.journal.specs.Step.{After, after, isAccepted, recordOf, advanced, noted, recorded, moved, taken, step}
+use Rattle.journal.specs.Step.{Result, result, isAccepted, recordOf, advanced, noted, recorded, moved, taken, step}
 use Rattle.journal.proofs.StateLaws.{Parts, parts, together, next-slot}
 
 -- a step of the machine alone, and the record of it
@@ -50,7 +50,7 @@ record-registers s b (Two x y) = refl
 module _ (w : Whole) where
   -- ---- a step, valid state or not
 
-  pub invalid-step : validWhole w ≡ false → step w ≡ after (no 1) w
+  pub invalid-step : validWhole w ≡ false → step w ≡ result (no 1) w
   unfolding step
   invalid-step h = rw h
 
@@ -61,7 +61,7 @@ module _ (w : Whole) where
   -- its answer is the machine's
   pub step-answer : validWhole w ≡ true → step w .answer ≡ own w .answer
   unfolding taken
-  step-answer h = ap (λ (x : After). x .answer) (valid-step h)
+  step-answer h = ap (λ (x : Result). x .answer) (valid-step h)
 
   -- only a valid state's is accepted
   pub accepted-valid : isAccepted (step w .answer) ≡ true → validWhole w ≡ true
@@ -70,7 +70,7 @@ module _ (w : Whole) where
     where
       go : (t : Bool) → validWhole w ≡ t → validWhole w ≡ true
       go true h = h
-      go false h = clash (sym (ap (λ (x : After). isAccepted (x .answer)) (invalid-step h)) ∙ e)
+      go false h = clash (sym (ap (λ (x : Result). isAccepted (x .answer)) (invalid-step h)) ∙ e)
 
   -- ---- what is not accepted changes nothing
 
@@ -82,9 +82,9 @@ module _ (w : Whole) where
   step-kept e = go (validWhole w) refl
     where
       go : (t : Bool) → validWhole w ≡ t → step w .whole ≡ w
-      go false h = ap (λ (x : After). x .whole) (invalid-step h)
+      go false h = ap (λ (x : Result). x .whole) (invalid-step h)
       go true h =
-          ap (λ (x : After). x .whole) (valid-step h) ∙ taken-kept (own w) (ap isAccepted (sym (step-answer h)) ∙ e)
+          ap (λ (x : Result). x .whole) (valid-step h) ∙ taken-kept (own w) (ap isAccepted (sym (step-answer h)) ∙ e)
 
   -- ---- what an accepted step leaves
 
@@ -96,7 +96,7 @@ module _ (w : Whole) where
     step-whole : step w .whole ≡ recorded (ownRecord w) (moved w (own w))
     step-whole =
         let h : validWhole w ≡ true = accepted-valid e in
-        ap (λ (x : After). x .whole) (valid-step h) ∙ taken-recorded (own w) (ap isAccepted (sym (step-answer h)) ∙ e)
+        ap (λ (x : Result). x .whole) (valid-step h) ∙ taken-recorded (own w) (ap isAccepted (sym (step-answer h)) ∙ e)
 
     pub own-accepted : isAccepted (own w .answer) ≡ true
     own-accepted = ap isAccepted (sym (step-answer (accepted-valid e))) ∙ e
@@ -198,7 +198,7 @@ module _ (w : Whole) where
     pub bytes : step w .whole .bytes ≡ own w .bytes
 
   -- what is not accepted changes nothing there either
-  unaccepted-own : (a : Told answers.State) → own w .answer ≡ a → isAccepted a ≡ false
+  unaccepted-own : (a : Told answers.Reply) → own w .answer ≡ a → isAccepted a ≡ false
       → own w ≡ machine.after a (w .state .machine) (w .bytes)
   unfolding isAccepted
   unaccepted-own (is answers.Continue) e n = clash (sym n)

@@ -21,7 +21,7 @@ use Rattle.records.specs.declared.Record.{Record}
 use Rattle.journal.specs.declared.State.{State}
 use Rattle.journal.specs.States.{Whole, whole, state, valid, validWhole}
 use Rattle.journal.proofs.StateLaws.{valid-of, valid-machine, valid-held, valid-next}
-use Rattle.journal.specs.Step.{after, isAccepted, recordOf, advanced, noted, recorded, moved, taken, step}
+use Rattle.journal.specs.Step.{result, isAccepted, recordOf, advanced, noted, recorded, moved, taken, step}
 
 -- what the machine's own plan is, over the whole state
 abbrev pub planOf : Whole → Planned
@@ -40,18 +40,18 @@ module _ (w : Whole) (v : validWhole w ≡ true) where
   committed-parts = machineLaws.committed-as (w .state .machine) (w .bytes) (planOf w)
 
   -- Stop and refusals
-  pub step-not : isAccepted (planOf w .answer) ≡ false → step w ≡ after (planOf w .answer) w
+  pub step-not : isAccepted (planOf w .answer) ≡ false → step w ≡ result (planOf w .answer) w
   unfolding taken
   step-not f = step-taken ∙ ap (taken w) committed-parts ∙ rw f
 
   -- Continue and Debug
   pub step-accepted : isAccepted (planOf w .answer) ≡ true
-      → step w ≡ after (planOf w .answer) (recorded (recordOf (w .state .machine .registers) (w .bytes) (planOf w .changes)) (moved w (committedOf w)))
+      → step w ≡ result (planOf w .answer) (recorded (recordOf (w .state .machine .registers) (w .bytes) (planOf w .changes)) (moved w (committedOf w)))
   unfolding taken
   step-accepted t =
       let r = recordOf (w .state .machine .registers) (w .bytes) (planOf w .changes) in
       step-taken ∙ ap (taken w) committed-parts
-      ∙ rw t (ap (λ (a : machine.After). after (planOf w .answer) (recorded r (moved w a))) (sym committed-parts))
+      ∙ rw t (ap (λ (a : machine.After). result (planOf w .answer) (recorded r (moved w a))) (sym committed-parts))
 
   -- the same, part by part, as the code has them: the plan p, the machine's step a, the record r, the state and the journal after it
   pub step-made : (p : Planned) (a : machine.After) (r : Record) (s : State) (j : List ℕ) → p ≡ planOf w → isAccepted (p .answer) ≡ true
@@ -59,7 +59,7 @@ module _ (w : Whole) (v : validWhole w ≡ true) where
       → a ≡ machine.committed (w .state .machine) (w .bytes) p
       → s ≡ advanced (state (a .machine) (w .state .next) (w .state .held)) (room (w .journal))
       → j ≡ noted (w .state .next) (room (w .journal)) r (w .journal)
-      → after (p .answer) (whole s (a .bytes) j) ≡ step w
+      → result (p .answer) (whole s (a .bytes) j) ≡ step w
   step-made p a r s j e t f g h i = rw (h, i, f, g, e) (sym (step-accepted (rw (← e) t)))
 
 -- ---- it stays valid

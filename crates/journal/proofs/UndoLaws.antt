@@ -82,8 +82,10 @@ pub record Undoes (r : Record) (t s : Point) : Type 0 where
 
 module _ (w : Whole) (h : validWhole w ≡ true) where
   own-made : own w .bytes ≡ made (plan (w .state .machine) (w .bytes) .changes) (w .bytes)
-  unfolding machine.committed
-  own-made = ap (λ (x : machine.After). x .bytes) (machine-laws.valid-step (w .state .machine) (w .bytes) (parts w h .tables))
+  own-made =
+      let m = w .state .machine in
+      let b = w .bytes in
+      ap (λ (x : machine.After). x .bytes) (machine-laws.valid-step m b (parts w h .tables) ∙ machine-laws.committed-as m b (plan m b))
 
   -- a step's record leads back to where the step was made
   pub record-undoes : Undoes (ownRecord w) (point (own w .machine) (own w .bytes)) (point (w .state .machine) (w .bytes))

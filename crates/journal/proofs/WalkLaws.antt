@@ -4,21 +4,21 @@ use mathlib.Core.List.{List, [], _∷_}
 use Rattle.journal.specs.States.{Whole}
 use Rattle.journal.specs.Step.{step}
 use Rattle.journal.specs.Back.{stepBack}
-use Rattle.journal.specs.Demand.{Move, Step, Back, after, walk}
+use Rattle.journal.specs.Demand.{Move, Step, Back, afterMove, walk}
 
 module _ (w : Whole) where
-  pub after-step : after w Step ≡ step w .whole
-  unfolding after
+  pub after-step : afterMove w Step ≡ step w .whole
+  unfolding afterMove
   after-step = refl
 
-  pub after-back : after w Back ≡ stepBack w .whole
-  unfolding after
+  pub after-back : afterMove w Back ≡ stepBack w .whole
+  unfolding afterMove
   after-back = refl
 
   pub walk-none : walk w [] ≡ w
   unfolding walk
   walk-none = refl
 
-  pub walk-more : (m : Move) (rest : List Move) → walk w (m ∷ rest) ≡ walk (after w m) rest
+  pub walk-more : (m : Move) (rest : List Move) → walk w (m ∷ rest) ≡ walk (afterMove w m) rest
   unfolding walk
   walk-more m rest = refl

@@ -1,27 +1,28 @@
 -- Step-back moves `next` back, lowers held, restores second byte, first byte, registers; the slot stays. Order: 1, 10, 11.
 use Prim.Native.Nat.{ℕ, zero, suc, _-_}
-use mathlib.Core.Bool.{Bool, true, false, _&&_}
-use mathlib.Core.List.{List}
+use mathlib.Core.Bool.{Bool, true, false, not, _&&_}
+use mathlib.Core.List.{List, [], _∷_}
 use lib.Dec.{eqb}
 use Rattle.base.specs.Choice.{cond}
+use Rattle.base.specs.Order.{Refusing, _when_, firstOf}
 use Rattle.machine.specs.States as machine
 use Rattle.machine.specs.declared.Machine.{Machine}
 use Rattle.map.specs.declared.Map.{Map}
 use Rattle.memory.specs.Bytes.{Lent, takes, storeByte}
 use Rattle.records.specs.Slots.{room, recordAt, slotBefore}
 use Rattle.records.specs.declared.Record.{Record}
-use Rattle.journal.specs.States.{Whole, whole, state, valid, emptied}
+use Rattle.journal.specs.States.{Whole, whole, state, valid, validWhole, emptied}
 use Rattle.journal.specs.declared.Used.{Used}
 use Rattle.journal.specs.declared.Used.the-variants.{Neither, First, Both, Unknown}
 use Rattle.journal.specs.declared.State.{State}
 
--- an entry's number, 0 where it is accepted, and all there is after it
-pub record Answered : Type 0 where
+-- a step-back's number, 0 where it is accepted, and all there is after it
+pub record Backed : Type 0 where
   pub number : ℕ
   pub whole : Whole
 
-abbrev pub answered : ℕ → Whole → Answered
-answered n w = record { number = n; whole = w }
+abbrev pub backed : ℕ → Whole → Backed
+backed n w = record { number = n; whole = w }
 
 -- ---- a record
 
@@ -62,20 +63,25 @@ undone w r =
     let m = s .machine in
     whole (state (with m r) (slotBefore (room (w .journal)) (s .next)) (s .held - 1)) (restored (m .map) (w .bytes) r (usedBy (r .kind))) (w .journal)
 
-unfoldable pub undoing : Whole → Record → Answered
-undoing w r =
-    cond (fits (w .state .machine .map) (w .bytes) r (usedBy (r .kind))) (answered 0 (undone w r)) (answered 11 w)
+-- ---- step-back: 10, 11
 
-unfoldable pub stepBack : Whole → Answered
-stepBack w =
-    cond (valid (w .state) (w .bytes .dev) (w .journal))
-    (cond (eqb (w .state .held) 0) (answered 10 w) (undoing w (newest w)))
-    (answered 1 w)
+unfoldable pub backOrder : Whole → List Refusing
+backOrder w =
+    10 when eqb (w .state .held) 0
+    ∷ 11 when not (fits (w .state .machine .map) (w .bytes) (newest w) (usedBy (newest w .kind)))
+    ∷ []
+
+-- 1 first
+unfoldable pub backNumber : Whole → ℕ
+backNumber w = firstOf (1 when not (validWhole w) ∷ backOrder w)
+
+unfoldable pub stepBack : Whole → Backed
+stepBack w = backed (backNumber w) (cond (eqb (backNumber w) 0) (undone w (newest w)) w)
 
 -- ---- forget: 1, and the journal is emptied
 
 unfoldable pub forgetNumber : State → List ℕ → List ℕ → ℕ
-forgetNumber s dev journal = cond (valid s dev journal) 0 1
+forgetNumber s dev journal = firstOf (1 when not (valid s dev journal) ∷ [])
 
 unfoldable pub forgotten : State → List ℕ → List ℕ → State
 forgotten s dev journal = cond (valid s dev journal) (emptied s) s

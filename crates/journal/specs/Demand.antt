@@ -24,26 +24,26 @@ pub data Move : Type 0 where
   Back : Move
 
 -- all there is after a move, accepted or refused
-unfoldable pub after : Whole → Move → Whole
-after w Step = step w .whole
-after w Back = stepBack w .whole
+unfoldable pub afterMove : Whole → Move → Whole
+afterMove w Step = step w .whole
+afterMove w Back = stepBack w .whole
 
 -- and after a list of moves, from the first one on
 unfoldable pub walk : Whole → List Move → Whole
 walk w [] = w
-walk w (m ∷ rest) = walk (after w m) rest
+walk w (m ∷ rest) = walk (afterMove w m) rest
 
 -- the accepted steps of a walk
 unfoldable pub steps : Whole → List Move → ℕ
 steps w [] = 0
-steps w (Step ∷ rest) = cond (isAccepted (step w .answer)) 1 0 + steps (after w Step) rest
-steps w (Back ∷ rest) = steps (after w Back) rest
+steps w (Step ∷ rest) = cond (isAccepted (step w .answer)) 1 0 + steps (afterMove w Step) rest
+steps w (Back ∷ rest) = steps (afterMove w Back) rest
 
 -- and those that were taken back
 unfoldable pub backs : Whole → List Move → ℕ
 backs w [] = 0
-backs w (Step ∷ rest) = backs (after w Step) rest
-backs w (Back ∷ rest) = cond (eqb (stepBack w .number) 0) 1 0 + backs (after w Back) rest
+backs w (Step ∷ rest) = backs (afterMove w Step) rest
+backs w (Back ∷ rest) = cond (eqb (stepBack w .number) 0) 1 0 + backs (afterMove w Back) rest
 
 -- ---- demand 2's step alone
 
@@ -52,16 +52,16 @@ pub data Place : Type 0 where
   at : Machine → Lent → Place
   nowhere : Place
 
-unfoldable pub onward : Place → Place
-onward (at m b) =
+unfoldable pub stepOn : Place → Place
+stepOn (at m b) =
     let a = machine.step m b in
     cond (isAccepted (a .answer)) (at (a .machine) (a .bytes)) nowhere
-onward nowhere = nowhere
+stepOn nowhere = nowhere
 
 -- where n accepted steps lead
 unfoldable pub alone : ℕ → Machine → Lent → Place
 alone zero m b = at m b
-alone (suc n) m b = onward (alone n m b)
+alone (suc n) m b = stepOn (alone n m b)
 
 -- ---- the demand
 

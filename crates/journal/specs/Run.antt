@@ -4,16 +4,16 @@ use Prim.Native.Nat.{ℕ, zero, suc}
 use mathlib.Core.Bool.{Bool, true, false}
 use Rattle.base.specs.Choice.{cond}
 use Rattle.base.specs.Told.{Told, is, no}
-use Rattle.machine.specs.Answers.{State, Continue, Debug, Stop}
+use Rattle.machine.specs.Answers.{Reply, Continue, Debug, Stop}
 use Rattle.journal.specs.States.{Whole, valid}
 use Rattle.journal.specs.Step.{isAccepted, step}
 
 pub record Ran : Type 0 where
-  pub answer : Told State
+  pub answer : Told Reply
   pub count : ℕ
   pub whole : Whole
 
-abbrev pub ran : Told State → ℕ → Whole → Ran
+abbrev pub ran : Told Reply → ℕ → Whole → Ran
 ran a n w = record { answer = a; count = n; whole = w }
 
 -- one accepted step more, before the others
@@ -21,14 +21,14 @@ abbrev pub oneMore : Ran → Ran
 oneMore r = ran (r .answer) (suc (r .count)) (r .whole)
 
 -- only Continue leads on
-unfoldable pub goesOn : Told State → Bool
+unfoldable pub goesOn : Told Reply → Bool
 goesOn (is Continue) = true
 goesOn (is Debug) = false
 goesOn (is Stop) = false
 goesOn (no n) = false
 
 -- a step counts if it is accepted, Debug included
-unfoldable pub counts : Told State → ℕ
+unfoldable pub counts : Told Reply → ℕ
 counts a = cond (isAccepted a) 1 0
 
 unfoldable pub repeated : ℕ → Whole → Ran

@@ -24,15 +24,15 @@ use Rattle.journal.specs.States.{Whole, whole, state, valid}
 use Rattle.journal.specs.declared.State.{State}
 
 -- a step's answer, and all there is after it
-pub record After : Type 0 where
-  pub answer : Told answers.State
+pub record Result : Type 0 where
+  pub answer : Told answers.Reply
   pub whole : Whole
 
-abbrev pub after : Told answers.State → Whole → After
-after a w = record { answer = a; whole = w }
+abbrev pub result : Told answers.Reply → Whole → Result
+result a w = record { answer = a; whole = w }
 
 -- accepted means Continue or Debug
-unfoldable pub isAccepted : Told answers.State → Bool
+unfoldable pub isAccepted : Told answers.Reply → Bool
 isAccepted (is answers.Continue) = true
 isAccepted (is answers.Debug) = true
 isAccepted (is answers.Stop) = false
@@ -75,14 +75,14 @@ abbrev pub moved : Whole → machine.After → Whole
 moved w a = whole (state (a .machine) (w .state .next) (w .state .held)) (a .bytes) (w .journal)
 
 -- a step of the machine, and its record if it is accepted
-unfoldable pub taken : Whole → machine.After → After
+unfoldable pub taken : Whole → machine.After → Result
 taken w a =
     let m = w .state .machine in
-    after (a .answer)
+    result (a .answer)
     (cond (isAccepted (a .answer)) (recorded (recordOf (m .registers) (w .bytes) (plan m (w .bytes) .changes)) (moved w a)) w)
 
 -- 1 first
-unfoldable pub step : Whole → After
+unfoldable pub step : Whole → Result
 step w =
     cond (valid (w .state) (w .bytes .dev) (w .journal)) (taken w (machine.step (w .state .machine) (w .bytes)))
-    (after (no 1) w)
+    (result (no 1) w)

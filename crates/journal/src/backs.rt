@@ -13,7 +13,7 @@ ghost use mathlib.Core.Path.{_≡_};
 ghost use Rattle.base.specs.Numbers.{numberOf, answerNumber};
 ghost use Rattle.memory.specs.Bytes.{lent};
 ghost use Rattle.journal.specs.States.{whole};
-ghost use Rattle.journal.specs.Back.{usedBy, fits, restored, with, answered, stepBack, forgetNumber, forgotten};
+ghost use Rattle.journal.specs.Back.{usedBy, fits, restored, with, backed, stepBack, forgetNumber, forgotten};
 
 // What a kind says of a record's two places: as many of them are used as bytes were stored.
 fn used_by(kind: u8) -> Used
@@ -88,7 +88,7 @@ fn refused(s: State, r: Refusal) -> Changed
 // Takes the newest record back: 1, 10, 11. A refusal changes nothing.
 pub fn step_back(s: State, mem: &mut [u8], dev: &mut [u8], journal: &[u8]) -> Changed
     ensures { λ r.
-        ⌜ answered (answerNumber (r .answer)) (whole (r .state) (lent (now (mem .exit)) (now (dev .exit))) (now (journal .entry))) ≡ stepBack (whole s (lent (now (mem .entry)) (now (dev .entry))) (now (journal .entry))) ⌝ }
+        ⌜ backed (answerNumber (r .answer)) (whole (r .state) (lent (now (mem .exit)) (now (dev .exit))) (now (journal .entry))) ≡ stepBack (whole s (lent (now (mem .entry)) (now (dev .entry))) (now (journal .entry))) ⌝ }
 {
     if !valid(s, dev, journal) {
         return refused(s, Refusal::BadState);

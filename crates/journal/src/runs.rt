@@ -16,7 +16,7 @@ ghost use Rattle.base.specs.Told.{no};
 ghost use Rattle.machine.specs.Answers.{answered};
 ghost use Rattle.memory.specs.Bytes.{lent};
 ghost use Rattle.journal.specs.States.{whole};
-ghost use Rattle.journal.specs.Step.{after, step};
+ghost use Rattle.journal.specs.Step.{result, step};
 ghost use Rattle.journal.specs.Run.{goesOn, counts, ran, run};
 
 fn goes_on(a: StepAnswer) -> bool
@@ -93,7 +93,7 @@ pub fn run(s: State, mem: &mut [u8], dev: &mut [u8], journal: &mut [u8], n: u32)
 // One step, recorded: 1, then as the machine's own. Anything but an accepted step changes nothing. It is a run of one.
 pub fn step(s: State, mem: &mut [u8], dev: &mut [u8], journal: &mut [u8]) -> Stepped
     ensures { λ r.
-        ⌜ after (answered (r .answer)) (whole (r .state) (lent (now (mem .exit)) (now (dev .exit))) (now (journal .exit))) ≡ step (whole s (lent (now (mem .entry)) (now (dev .entry))) (now (journal .entry))) ⌝ }
+        ⌜ result (answered (r .answer)) (whole (r .state) (lent (now (mem .exit)) (now (dev .exit))) (now (journal .exit))) ≡ step (whole s (lent (now (mem .entry)) (now (dev .entry))) (now (journal .entry))) ⌝ }
 {
     let r = run(s, mem, dev, journal, 1);
     let answer = r.answer;

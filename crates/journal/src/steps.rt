@@ -21,7 +21,7 @@ ghost use Rattle.memory.specs.Bytes.{lent};
 ghost use Rattle.records.specs.Slots.{room};
 ghost use Rattle.journal.specs.States.{whole, state, valid};
 ghost use Rattle.journal.specs.Turns.{stateOf, goingFrom, goingAfter};
-ghost use Rattle.journal.specs.Step.{after, isAccepted, replaced, recordOf, advanced, noted, step};
+ghost use Rattle.journal.specs.Step.{result, isAccepted, replaced, recordOf, advanced, noted, step};
 
 // How the journal stands: the slot that the next record goes to, and how many are held. Beside the registers this is all that changes from
 // step to step: tables and mode stay, and a run does not carry them along.
@@ -148,7 +148,7 @@ pub fn turn(
     requires { ⌜ d ≡ room (now journal) ⌝ }
     requires { ⌜ valid (stateOf (goingFrom (now g) ring) mode map) (now dev) (now journal) ≡ true ⌝ }
     ensures { λ r.
-        ⌜ after (answered (r .answer)) (whole (stateOf (goingAfter (now (g .entry)) r) mode map) (lent (now (mem .exit)) (now (dev .exit))) (now (journal .exit))) ≡ step (whole (stateOf (goingFrom (now (g .entry)) ring) mode map) (lent (now (mem .entry)) (now (dev .entry))) (now (journal .entry))) ⌝ }
+        ⌜ result (answered (r .answer)) (whole (stateOf (goingAfter (now (g .entry)) r) mode map) (lent (now (mem .exit)) (now (dev .exit))) (now (journal .exit))) ≡ step (whole (stateOf (goingFrom (now (g .entry)) ring) mode map) (lent (now (mem .entry)) (now (dev .entry))) (now (journal .entry))) ⌝ }
     ensures { λ r. ⌜ valid (stateOf (goingAfter (now (g .entry)) r) mode map) (now (dev .exit)) (now (journal .exit)) ≡ true ⌝ }
 {
     let p = machine::move_of(g, mode, map, mem, dev);
@@ -157,7 +157,7 @@ pub fn turn(
         return unmoved(g, ring, answer);
     }
     let c = p.changes;
-    let after = note(g, ring, mem, dev, c, journal, d);
+    let result = note(g, ring, mem, dev, c, journal, d);
     memory::make(c, mem, dev);
     let register = p.register;
     Turned {
@@ -165,7 +165,7 @@ pub fn turn(
         register,
         value: p.value,
         pc: p.pc,
-        ring: after,
+        ring: result,
     }
 }
 

@@ -4,9 +4,9 @@ use mathlib.Core.Path.{_≡_, refl}
 use mathlib.Core.Bool.{Bool, true, false}
 use Prim.Native.Nat.{ℕ}
 use Rattle.base.specs.Choice.{cond}
-use Rattle.base.specs.Told.{Told, is, no}
+use Rattle.base.specs.Told.{Told, is, no, _>>=_}
 use Rattle.base.specs.Words.{lowOf}
-use Rattle.base.specs.Addresses.{basePlusShift, raisedPc}
+use Rattle.base.specs.Addresses.{basePlusShift, raisedPc, addressOr}
 use Rattle.base.specs.declared.addresses.Reached.{Reached}
 use Rattle.base.specs.declared.addresses.Reached.the-variants.{At, Past}
 use Rattle.instruction.specs.Decode.{decode}
@@ -17,40 +17,36 @@ use Rattle.instruction.specs.declared.ArithOp.{ArithOp}
 use Rattle.instruction.specs.declared.ArithOp.the-variants.{Add, Sub, Mul, Div}
 use Rattle.instruction.specs.declared.Instruction.{Instruction}
 use Rattle.instruction.specs.declared.Instruction.the-variants.{Noop, Mov, MovShift, Arith, ArithRegReg, LdrStr, LdbStb, Cpy, Jmp, CondJmp, Cmp, CallRet}
-use Rattle.arithmetic.specs.Operators.{arithOf, arithmeticOf}
+use Rattle.arithmetic.specs.Operators.{arithResult, arithmeticResult}
 use Rattle.arithmetic.specs.Compares.{compare}
 use Rattle.arithmetic.specs.Flags.{compared, failed}
 use Rattle.arithmetic.specs.Shifts.{moved}
 use Rattle.arithmetic.specs.Totals.{remainder}
 use Rattle.map.specs.declared.Map.{Map}
 use Rattle.memory.specs.Bytes.{Lent, readByte}
-use Rattle.memory.specs.Words.{readWord}
+use Rattle.memory.specs.Words.{Reading, aWord, noWord, readWord, Ending, Decided, byteDecision, wordDecision}
+use Rattle.memory.specs.Words as memory
 use Rattle.memory.specs.declared.Read.{Read}
 use Rattle.memory.specs.declared.Read.the-variants.{Byte, Unmapped}
-use Rattle.memory.specs.declared.WordRead.{WordRead}
-use Rattle.memory.specs.declared.WordRead.the-variants as word
-use Rattle.memory.specs.declared.Stored.{Stored}
-use Rattle.memory.specs.declared.Stored.the-variants as stored
 use Rattle.memory.specs.declared.Changes.{Changes}
 use Rattle.memory.specs.declared.Changes.the-variants.{Nothing}
-use Rattle.memory.specs.declared.Decision.{Decision}
-use Rattle.machine.specs.Answers.{State, Continue, Debug, Stop}
+use Rattle.machine.specs.Answers.{Reply, Continue, Debug, Stop}
 use Rattle.machine.specs.Registers.{get, put, operand, flag}
-use Rattle.machine.specs.Acts.{Act, next, jump, onward, byteStore, wordStore, noop, mov, movShift, result, atOldSp, kept, arith, arithRegReg, marked, cmp, jmp, condJmp, call, callRet, wordLoaded, byteLoaded, fault, ended, storing, wordAt, byteAt, ldrStr, ldbStb, copied, cpy, act}
+use Rattle.machine.specs.Acts.{Act, next, jump, onward, noop, mov, movShift, result, atOldSp, kept, arith, arithRegReg, marked, cmp, jmp, condJmp, call, callRet, wordLoaded, byteLoaded, fault, ended, storing, wordAt, byteAt, addressed, copied, cpy, act}
 use Rattle.machine.specs.Plan.{Planned, plans, refusal, raised, finished, decoded, fetched, plan}
-use Rattle.machine.specs.Stores.{Storing, nothing, oneByte, oneWord, wordTo, byteTo, copyTo, remainderTo, storingOf}
+use Rattle.machine.specs.Stores.{Storing, nothing, oneByte, oneWord, atAddress, copyTo, remainderTo, storingOf}
 use Rattle.machine.specs.declared.Machine.{Machine}
 use Rattle.machine.specs.declared.Registers.{Registers}
 
 -- what is stored, as memory decides it
 abbrev pub changesOf : Map → Lent → Storing → Changes
 changesOf m b nothing = Nothing
-changesOf m b (oneByte a v) = byteStore m b a v .changes
-changesOf m b (oneWord a w) = wordStore m b a w .changes
+changesOf m b (oneByte a v) = byteDecision m b a v .changes
+changesOf m b (oneWord a w) = wordDecision m b a w .changes
 
 -- three properties: of answers, of registers, of what is stored; and what every plan needs of the first two
 pub record Properties (m : Machine) : Type 1 where
-  pub Answered : State → Type 0
+  pub Answered : Reply → Type 0
   pub Held : Registers → Type 0
   pub Stores : Changes → Type 0
   pub continues : Answered Continue
@@ -77,7 +73,7 @@ module _ (m : Machine) (b : Lent) (properties : Properties m) where
   Good (no n) = Unit {0}
 
   -- a plan by its answer: one that is refused is the refusal, and changes nothing
-  abbrev pub GoodAs : Planned → Told State → Type 0
+  abbrev pub GoodAs : Planned → Told Reply → Type 0
   GoodAs p (is a) = Answered a × Held (p .registers) × Stores (p .changes)
   GoodAs p (no n) = p ≡ plans (no n) s Nothing
 
@@ -119,18 +115,21 @@ module _ (m : Machine) (b : Lent) (properties : Properties m) where
       go true = (puts (marked s false) PC (operand (marked s false) o) (one-put FLAGS (compared (get s FLAGS) false)), h)
       go false = (continues, starts, h)
 
-  call-good : (address : ℕ) (x : Reached) → Stores Nothing → Good (call s address x)
+  call-good : (address : ℕ) → Stores Nothing → Good (call s address)
   unfolding call
-  call-good address (At n) h = (puts (put s PC address) M n (one-put PC address), h)
-  call-good address Past h = tt
+  call-good address h = go (raisedPc (get s PC))
+    where
+      go : (x : Reached) → Good (addressOr 9 x >>= λ n. is (jump (put (put s PC address) M n)))
+      go (At n) = (puts (put s PC address) M n (one-put PC address), h)
+      go Past = tt
 
   -- ---- loads and stores
 
-  word-loaded-good : (r : Register) (x : WordRead) → Stores Nothing → Good (wordLoaded s r x)
+  word-loaded-good : (r : Register) (x : Told Reading) → Stores Nothing → Good (wordLoaded s r x)
   unfolding wordLoaded
-  word-loaded-good r (word.Word w) h = (continues, one-put r w, h)
-  word-loaded-good r word.NoWord h = (continues, starts, h)
-  word-loaded-good r (word.Refused e) h = tt
+  word-loaded-good r (is (aWord w)) h = (continues, one-put r w, h)
+  word-loaded-good r (is noWord) h = (continues, starts, h)
+  word-loaded-good r (no n) h = tt
 
   byte-loaded-good : (r : Register) (x : Read) → Stores Nothing → Good (byteLoaded s r x)
   unfolding byteLoaded
@@ -141,38 +140,53 @@ module _ (m : Machine) (b : Lent) (properties : Properties m) where
   unfolding fault
   fault-held = one-put FLAGS (failed (get s FLAGS))
 
-  storing-good : (d : Decision) → Stores (d .changes) → Good (storing s d)
+  storing-good : (d : Decided) → Stores (d .changes) → Good (storing s d)
   unfolding storing ended
   storing-good d h = go (d .outcome)
     where
-      go : (x : Stored) → Good (ended s (d .changes) x)
-      go stored.Done = (continues, starts, h)
-      go stored.Failed = (continues, fault-held, h)
-      go (stored.Refused e) = tt
+      go : (x : Told Ending) → Good (ended s (d .changes) x)
+      go (is memory.done) = (continues, starts, h)
+      go (is memory.failed) = (continues, fault-held, h)
+      go (no n) = tt
 
-  str-good : (r : Register) (x : Reached) → StoresOf (wordTo x (get s r)) → Good (ldrStr (m .map) b s r true x)
-  unfolding ldrStr wordAt wordTo
-  str-good r (At a) h = storing-good (wordStore (m .map) b a (get s r)) h
-  str-good r Past h = tt
+  -- an act at an address, by what it stores at each
+  addressed-good : (a : Register) (shift : ℕ) (acts : ℕ → Told Act) (storing : ℕ → Storing) → ((n : ℕ) → StoresOf (storing n) → Good (acts n))
+      → StoresOf (atAddress (basePlusShift (get s a) shift) storing) → Good (addressed s a shift acts)
+  unfolding addressed atAddress
+  addressed-good a shift acts storing good = go (basePlusShift (get s a) shift)
+    where
+      go : (x : Reached) → StoresOf (atAddress x storing) → Good (addressOr 3 x >>= acts)
+      go (At n) h = good n h
+      go Past h = tt
 
-  ldr-good : (r : Register) (x : Reached) → Stores Nothing → Good (ldrStr (m .map) b s r false x)
-  unfolding ldrStr wordAt
-  ldr-good r (At a) h = word-loaded-good r (readWord (m .map) b a) h
-  ldr-good r Past h = tt
+  -- a load stores nothing, wherever it is
+  load-good : (a : Register) (shift : ℕ) (acts : ℕ → Told Act) → ((n : ℕ) → Good (acts n)) → Good (addressed s a shift acts)
+  unfolding addressed
+  load-good a shift acts good = go (basePlusShift (get s a) shift)
+    where
+      go : (x : Reached) → Good (addressOr 3 x >>= acts)
+      go (At n) = good n
+      go Past = tt
 
-  stb-good : (r : Register) (x : Reached) → StoresOf (byteTo x (lowOf (get s r))) → Good (ldbStb (m .map) b s r true x)
-  unfolding ldbStb byteAt byteTo
-  stb-good r (At a) h = storing-good (byteStore (m .map) b a (lowOf (get s r))) h
-  stb-good r Past h = tt
+  str-good : (r : Register) (a : ℕ) → StoresOf (oneWord a (get s r)) → Good (wordAt (m .map) b s r true a)
+  unfolding wordAt
+  str-good r a h = storing-good (wordDecision (m .map) b a (get s r)) h
 
-  ldb-good : (r : Register) (x : Reached) → Stores Nothing → Good (ldbStb (m .map) b s r false x)
-  unfolding ldbStb byteAt
-  ldb-good r (At a) h = byte-loaded-good r (readByte (m .map) b a) h
-  ldb-good r Past h = tt
+  ldr-good : (r : Register) → Stores Nothing → (a : ℕ) → Good (wordAt (m .map) b s r false a)
+  unfolding wordAt
+  ldr-good r h a = word-loaded-good r (readWord (m .map) b a) h
+
+  stb-good : (r : Register) (a : ℕ) → StoresOf (oneByte a (lowOf (get s r))) → Good (byteAt (m .map) b s r true a)
+  unfolding byteAt
+  stb-good r a h = storing-good (byteDecision (m .map) b a (lowOf (get s r))) h
+
+  ldb-good : (r : Register) → Stores Nothing → (a : ℕ) → Good (byteAt (m .map) b s r false a)
+  unfolding byteAt
+  ldb-good r h a = byte-loaded-good r (readByte (m .map) b a) h
 
   copied-good : (to : ℕ) (x : Read) → StoresOf (copyTo to x) → Good (copied (m .map) b s to x)
   unfolding copied copyTo
-  copied-good to (Byte v p) h = storing-good (byteStore (m .map) b to v) h
+  copied-good to (Byte v p) h = storing-good (byteDecision (m .map) b to v) h
   copied-good to Unmapped h = (continues, fault-held, h)
 
   -- ---- all twelve, where the property holds of what the instruction stores
@@ -182,18 +196,18 @@ module _ (m : Machine) (b : Lent) (properties : Properties m) where
   act-good Noop h = (noop-answers (m .mode .debug), starts, h)
   act-good (Mov d o) h = (continues, one-put d (operand s o), h)
   act-good (MovShift d amount left imm) h = (continues, one-put d (moved (get s d) amount left imm), h)
-  act-good (Arith d o op) h = result-good d (kept (m .map) b s op (get s d) (operand s o)) (arithOf op (get s d) (operand s o)) (kept-stores d o op h)
-  act-good (ArithRegReg d x y op) h = result-good d Nothing (arithmeticOf op (get s x) (get s y)) h
-  act-good (LdrStr r a true shift) h = str-good r (basePlusShift (get s a) shift) h
-  act-good (LdrStr r a false shift) h = ldr-good r (basePlusShift (get s a) shift) h
-  act-good (LdbStb r a true shift) h = stb-good r (basePlusShift (get s a) shift) h
-  act-good (LdbStb r a false shift) h = ldb-good r (basePlusShift (get s a) shift) h
+  act-good (Arith d o op) h = result-good d (kept (m .map) b s op (get s d) (operand s o)) (arithResult op (get s d) (operand s o)) (kept-stores d o op h)
+  act-good (ArithRegReg d x y op) h = result-good d Nothing (arithmeticResult op (get s x) (get s y)) h
+  act-good (LdrStr r a true shift) h = addressed-good a shift (wordAt (m .map) b s r true) (λ n. oneWord n (get s r)) (str-good r) h
+  act-good (LdrStr r a false shift) h = load-good a shift (wordAt (m .map) b s r false) (ldr-good r h)
+  act-good (LdbStb r a true shift) h = addressed-good a shift (byteAt (m .map) b s r true) (λ n. oneByte n (lowOf (get s r))) (stb-good r) h
+  act-good (LdbStb r a false shift) h = load-good a shift (byteAt (m .map) b s r false) (ldb-good r h)
   act-good (Cpy x y) h = copied-good (get s y) (readByte (m .map) b (get s x)) h
   act-good (Jmp o) h = (one-put PC (operand s o), h)
   act-good (CondJmp o) h = cond-jmp-good o h
   act-good (Cmp r o op) h = (continues, one-put FLAGS (compared (get s FLAGS) (compare op (get s r) (operand s o))), h)
   act-good (CallRet true address) h = (one-put PC (get s M), h)
-  act-good (CallRet false address) h = call-good address (raisedPc (get s PC)) h
+  act-good (CallRet false address) h = call-good address h
 
   -- ---- a plan
 
@@ -215,11 +229,11 @@ module _ (m : Machine) (b : Lent) (properties : Properties m) where
     decoded-good (is i) = finished-good (act m b i) (act-good i (all (storingOf m b i)))
     decoded-good (no n) = refl
 
-    fetched-good : (x : WordRead) → GoodPlan (fetched m b x)
+    fetched-good : (x : Told Reading) → GoodPlan (fetched m b x)
     unfolding fetched refusal
-    fetched-good (word.Word w) = decoded-good (decode w)
-    fetched-good word.NoWord = refl
-    fetched-good (word.Refused r) = refl
+    fetched-good (is (aWord w)) = decoded-good (decode w)
+    fetched-good (is noWord) = refl
+    fetched-good (no n) = refl
 
     pub plan-good : GoodPlan (plan m b)
     unfolding plan
@@ -233,6 +247,6 @@ module _ (m : Machine) (b : Lent) (properties : Properties m) where
     pub plan-gives : Held (plan m b .registers) × Stores (plan m b .changes)
     plan-gives = go (plan m b .answer) plan-good
       where
-        go : (x : Told State) → GoodAs (plan m b) x → Held (plan m b .registers) × Stores (plan m b .changes)
+        go : (x : Told Reply) → GoodAs (plan m b) x → Held (plan m b .registers) × Stores (plan m b .changes)
         go (is a) g = (g .1, g .2)
         go (no n) e = rw e (starts, all nothing)

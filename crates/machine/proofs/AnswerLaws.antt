@@ -1,30 +1,30 @@
--- Two answers of a step, and two plans, that are told alike are one: a refusal by its number. Assumes nothing.
+-- Two answers of a step, two plans, and two answers with the machine after them, that are told alike are one: a refusal by its number. Assumes nothing.
 use mathlib.Core.Path.{_≡_, refl, sym, ap, _∙_}
-use Rattle.base.specs.Numbers.{numberOf}
+use Rattle.base.specs.Numbers.{numberOf, answerNumber}
 use Rattle.base.specs.Told.{Told, is, no}
 use Rattle.base.specs.declared.refusals.Refusal.{Refusal}
-use Rattle.base.proofs.Laws.{number-one}
+use Rattle.base.proofs.Laws.{answer-one, number-one}
 use Rattle.base.proofs.ToldLaws.{is-not-no, no-one}
-use Rattle.memory.specs.declared.Changes.{Changes}
-use Rattle.machine.specs.Answers.{State, Continue, Debug, Stop, answered}
+use Rattle.machine.specs.Answers.{Reply, Continue, Debug, Stop, answered}
 use Rattle.machine.specs.Plan.{Planned, planned}
 use Rattle.machine.specs.declared.Plan.{Plan}
-use Rattle.machine.specs.declared.Registers.{Registers}
+use Rattle.machine.specs.declared.Changed.{Changed}
+use Rattle.machine.specs.declared.Stepped.{Stepped}
 use Rattle.machine.specs.declared.StepAnswer.{StepAnswer}
 use Rattle.machine.specs.declared.StepAnswer.the-variants as answer
 
--- the answer of a state
-answerOf : State → StepAnswer
+-- the answer of a reply
+answerOf : Reply → StepAnswer
 answerOf Continue = answer.Continue
 answerOf Debug = answer.Debug
 answerOf Stop = answer.Stop
 
 -- the answer that is told, where it is no refusal
-back : StepAnswer → Told State → StepAnswer
+back : StepAnswer → Told Reply → StepAnswer
 back d (is a) = answerOf a
 back d (no n) = d
 
-never : {A : Type 0} (a : State) (r : Refusal) → _≡_ {A = Told State} (is a) (no (numberOf r)) → A
+never : {A : Type 0} (a : Reply) (r : Refusal) → _≡_ {A = Told Reply} (is a) (no (numberOf r)) → A
 never a r e = is-not-no a (numberOf r) e
 
 pub answered-one : (a b : StepAnswer) → answered a ≡ answered b → a ≡ b
@@ -46,11 +46,18 @@ answered-one (answer.Refused r) answer.Debug e = never Debug r (sym e)
 answered-one (answer.Refused r) answer.Stop e = never Stop r (sym e)
 answered-one (answer.Refused r) (answer.Refused q) e = ap answer.Refused (number-one r q (no-one (numberOf r) (numberOf q) e))
 
-abbrev plan : StepAnswer → Registers → Changes → Plan
-plan a s c = record { answer = a; registers = s; changes = c }
+-- a struct is its fields
 
 pub planned-one : (p q : Plan) → planned p ≡ planned q → p ≡ q
 planned-one p q e =
-    ap (λ (a : StepAnswer). plan a (p .registers) (p .changes)) (answered-one (p .answer) (q .answer) (ap (λ (x : Planned). x .answer) e))
-    ∙ ap (λ (s : Registers). plan (q .answer) s (p .changes)) (ap (λ (x : Planned). x .registers) e)
-    ∙ ap (λ (c : Changes). plan (q .answer) (q .registers) c) (ap (λ (x : Planned). x .changes) e)
+    λ i. record {
+      answer = answered-one (p .answer) (q .answer) (ap (λ (x : Planned). x .answer) e) i;
+      registers = e i .registers;
+      changes = e i .changes;
+    }
+
+pub stepped-one : (p q : Stepped) → answered (p .answer) ≡ answered (q .answer) → p .machine ≡ q .machine → p ≡ q
+stepped-one p q e f = λ i. record { answer = answered-one (p .answer) (q .answer) e i; machine = f i }
+
+pub changed-one : (p q : Changed) → answerNumber (p .answer) ≡ answerNumber (q .answer) → p .machine ≡ q .machine → p ≡ q
+changed-one p q e f = λ i. record { answer = answer-one (p .answer) (q .answer) e i; machine = f i }

@@ -16,12 +16,11 @@ use Rattle.instruction.specs.declared.Register.the-variants.{PC}
 use Rattle.instruction.specs.declared.Instruction.the-variants.{Noop}
 use Rattle.map.proofs.Laws.{valid-length}
 use Rattle.memory.specs.Bytes.{Lent}
-use Rattle.memory.specs.Words.{readWord, made}
+use Rattle.memory.specs.Words.{aWord, readWord, made}
 use Rattle.memory.specs.declared.Changes.the-variants.{Nothing}
-use Rattle.memory.specs.declared.WordRead.the-variants as word
 use Rattle.memory.proofs.Laws.{SameLengths, same-lengths}
 use Rattle.memory.proofs.Decisions.{made-lengths, nothing-made}
-use Rattle.machine.specs.Answers.{State, Continue, Debug, Stop}
+use Rattle.machine.specs.Answers.{Reply, Continue, Debug, Stop}
 use Rattle.machine.specs.Registers.{get, put, flag}
 use Rattle.machine.specs.Acts.{noop, act}
 use Rattle.machine.specs.Plan.{Planned, plans, raised, finished, decoded, fetched, plan}
@@ -55,7 +54,7 @@ module _ (m : Machine) (b : Lent) where
   -- ---- what is not accepted changes nothing
 
   -- a plan that leaves the registers and stores nothing
-  nothing-done : (a : Told State) → plan m b ≡ plans a (m .registers) Nothing → committed m b (plan m b) ≡ after a m b
+  nothing-done : (a : Told Reply) → plan m b ≡ plans a (m .registers) Nothing → committed m b (plan m b) ≡ after a m b
   unfolding committed
   nothing-done a e = ap (committed m b) e ∙ ap (λ (x : Lent). after a m x) (nothing-made b)
 
@@ -68,7 +67,7 @@ module _ (m : Machine) (b : Lent) where
   step-refused n = go (valid m (b .dev)) refl
     where
       go : (t : Bool) → valid m (b .dev) ≡ t → step m b .answer ≡ no n → step m b ≡ after (no n) m b
-      go false h e = invalid-step h ∙ ap (λ (a : Told State). after a m b) (sym (ap (λ (x : After). x .answer) (invalid-step h)) ∙ e)
+      go false h e = invalid-step h ∙ ap (λ (a : Told Reply). after a m b) (sym (ap (λ (x : After). x .answer) (invalid-step h)) ∙ e)
       go true h e = valid-step h ∙ nothing-done (no n) (plan-refused m b n (sym (answer-of h) ∙ e))
 
   -- Stop, which FLAGS bit 0 alone decides
@@ -118,7 +117,7 @@ module _ (m : Machine) (b : Lent) where
   -- ---- Noop raises PC, and does nothing else
 
   pub step-noop : (w n : ℕ) → valid m (b .dev) ≡ true → flag (m .registers) 0 ≡ false
-      → readWord (m .map) b (get (m .registers) PC) ≡ word.Word w → decode w ≡ is Noop → raisedPc (get (m .registers) PC) ≡ At n
+      → readWord (m .map) b (get (m .registers) PC) ≡ is (aWord w) → decode w ≡ is Noop → raisedPc (get (m .registers) PC) ≡ At n
       → step m b ≡ after (is (cond (m .mode .debug) Debug Continue)) (with m (put (m .registers) PC n)) b
   unfolding committed plan fetched decoded finished raised act noop
   step-noop w n h f r d p =
@@ -127,7 +126,7 @@ module _ (m : Machine) (b : Lent) where
 
   -- so a step that does nothing is ruled out
   pub noop-raises : (w : ℕ) → valid m (b .dev) ≡ true → flag (m .registers) 0 ≡ false
-      → readWord (m .map) b (get (m .registers) PC) ≡ word.Word w → decode w ≡ is Noop → get (m .registers) PC + 2 ≤ 65535 → length (m .registers .value) ≡ 8
+      → readWord (m .map) b (get (m .registers) PC) ≡ is (aWord w) → decode w ≡ is Noop → get (m .registers) PC + 2 ≤ 65535 → length (m .registers .value) ≡ 8
       → get (step m b .machine .registers) PC ≡ get (m .registers) PC + 2
   noop-raises w h f r d p l =
       ap (λ (x : After). get (x .machine .registers) PC) (step-noop w (get (m .registers) PC + 2) h f r d (reached-at (get (m .registers) PC + 2) p))

@@ -9,7 +9,7 @@ use Rattle.base.proofs.Tests.{clash}
 use Rattle.memory.specs.Bytes.{Lent}
 use Rattle.memory.specs.declared.Changes.the-variants.{Nothing}
 use Rattle.memory.proofs.Decisions.{Sound, byte-sound, decision-sound}
-use Rattle.machine.specs.Answers.{State, Continue, Debug, Stop}
+use Rattle.machine.specs.Answers.{Reply, Continue, Debug, Stop}
 use Rattle.machine.specs.Registers.{flag}
 use Rattle.machine.specs.Plan.{plans, plan}
 use Rattle.machine.specs.Stores.{Storing, nothing, oneByte, oneWord}
@@ -42,7 +42,7 @@ module _ (m : Machine) (b : Lent) where
   sound (oneByte a v) = byte-sound (m .map) b a v
   sound (oneWord a w) = decision-sound (m .map) b a w
 
-  answered-as : (x : Told State) → plan m b .answer ≡ x → GoodAs m b known (plan m b) x
+  answered-as : (x : Told Reply) → plan m b .answer ≡ x → GoodAs m b known (plan m b) x
   answered-as x e = subst (GoodAs m b known (plan m b)) e (plan-good m b known sound)
 
   pub plan-refused : (n : ℕ) → plan m b .answer ≡ no n → plan m b ≡ plans (no n) (m .registers) Nothing

@@ -7,7 +7,7 @@ use lib.Dec.{eqb}
 use lib.ListN.{set}
 use Rattle.base.specs.Choice.{cond}
 use Rattle.map.specs.Valid as tables
-use Rattle.machine.specs.States.{valid, with, setNumber, setMachine}
+use Rattle.machine.specs.States.{valid, withRegister, setNumber, setMachine}
 use Rattle.machine.specs.declared.Machine.{Machine}
 
 module _ (m : Machine) (dev : List ℕ) where
@@ -16,9 +16,9 @@ module _ (m : Machine) (dev : List ℕ) where
   valid-tables = refl
 
   pub set-tables : (number value : ℕ) → setMachine m dev number value .map ≡ m .map
-  unfolding setMachine
+  unfolding setMachine withRegister
   set-tables number value = go (eqb (setNumber m dev number) 0)
     where
-      go : (t : Bool) → cond t (with m (record { value = set (m .registers .value) number value })) m .map ≡ m .map
+      go : (t : Bool) → cond t (withRegister m number value) m .map ≡ m .map
       go true = refl
       go false = refl

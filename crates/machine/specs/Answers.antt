@@ -4,12 +4,12 @@ use Rattle.base.specs.Told.{Told, is, no}
 use Rattle.machine.specs.declared.StepAnswer.{StepAnswer}
 use Rattle.machine.specs.declared.StepAnswer.the-variants as answer
 
-pub data State : Type 0 where
-  Continue : State
-  Debug : State
-  Stop : State
+pub data Reply : Type 0 where
+  Continue : Reply
+  Debug : Reply
+  Stop : Reply
 
-abbrev pub answered : StepAnswer → Told State
+abbrev pub answered : StepAnswer → Told Reply
 answered answer.Continue = is Continue
 answered answer.Debug = is Debug
 answered answer.Stop = is Stop

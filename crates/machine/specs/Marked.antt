@@ -11,7 +11,7 @@ use Rattle.instruction.specs.declared.Instruction.the-variants.{Mov, LdrStr, Co
 use Rattle.instruction.specs.declared.Register.the-variants.{A, B, C}
 use Rattle.instruction.specs.declared.Operand.the-variants.{Reg, Imm}
 use Rattle.instruction.specs.declared.ArithmeticOp.the-variants.{Sqrt}
-use Rattle.arithmetic.specs.Operators.{arithmeticOf}
+use Rattle.arithmetic.specs.Operators.{arithmeticResult}
 
 -- a word, what a word decodes to, or what an operator comes to
 pub data Says : Type 0 where
@@ -39,6 +39,6 @@ marked =
     ∷ row (decodes (decode 0x000C)) (decodes (no 4))
     ∷ row (decodes (decode 0x0307)) (decodes (no 5))
     ∷ row (decodes (decode 0x038A)) (decodes (no 6))
-    ∷ row (comes (arithmeticOf Sqrt 65024 0)) (comes (is 254))
-    ∷ row (comes (arithmeticOf Sqrt 65025 0)) (comes (is 255))
+    ∷ row (comes (arithmeticResult Sqrt 65024 0)) (comes (is 254))
+    ∷ row (comes (arithmeticResult Sqrt 65025 0)) (comes (is 255))
     ∷ []

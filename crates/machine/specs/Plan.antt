@@ -1,7 +1,6 @@
 -- A step that is planned: fetch at PC, decode, act, add 2 to PC. Order: Stop, 2 or 3 at fetch, 4 to 6, then 3, 7, 8, then 9.
 use Prim.Native.Nat.{ℕ}
 use Rattle.base.specs.Choice.{cond}
-use Rattle.base.specs.Numbers.{numberOf}
 use Rattle.base.specs.Told.{Told, is, no}
 use Rattle.base.specs.Addresses.{raisedPc}
 use Rattle.base.specs.declared.addresses.Reached.{Reached}
@@ -10,12 +9,10 @@ use Rattle.instruction.specs.Decode.{decode}
 use Rattle.instruction.specs.declared.Instruction.{Instruction}
 use Rattle.instruction.specs.declared.Register.the-variants.{PC}
 use Rattle.memory.specs.Bytes.{Lent}
-use Rattle.memory.specs.Words.{readWord}
+use Rattle.memory.specs.Words.{Reading, aWord, noWord, readWord}
 use Rattle.memory.specs.declared.Changes.{Changes}
 use Rattle.memory.specs.declared.Changes.the-variants.{Nothing}
-use Rattle.memory.specs.declared.WordRead.{WordRead}
-use Rattle.memory.specs.declared.WordRead.the-variants as word
-use Rattle.machine.specs.Answers.{State, Continue, Stop, answered}
+use Rattle.machine.specs.Answers.{Reply, Continue, Stop, answered}
 use Rattle.machine.specs.Registers.{get, put, flag}
 use Rattle.machine.specs.Acts.{Act, next, jump, act}
 use Rattle.machine.specs.declared.Machine.{Machine}
@@ -24,11 +21,11 @@ use Rattle.machine.specs.declared.Registers.{Registers}
 
 -- a step's answer, the registers after it, the bytes to be stored
 pub record Planned : Type 0 where
-  pub answer : Told State
+  pub answer : Told Reply
   pub registers : Registers
   pub changes : Changes
 
-abbrev pub plans : Told State → Registers → Changes → Planned
+abbrev pub plans : Told Reply → Registers → Changes → Planned
 plans a s c = record { answer = a; registers = s; changes = c }
 
 abbrev pub planned : Plan → Planned
@@ -41,7 +38,7 @@ unfoldable pub refusal : Registers → ℕ → Planned
 refusal s n = plans (no n) s Nothing
 
 -- add 2 to PC; 9 where it can't be raised
-unfoldable pub raised : Registers → State → Registers → Changes → Reached → Planned
+unfoldable pub raised : Registers → Reply → Registers → Changes → Reached → Planned
 raised s a t c (At pc) = plans (is a) (put t PC pc) c
 raised s a t c Past = refusal s 9
 
@@ -59,10 +56,10 @@ decoded m b (is i) = finished (m .registers) (act m b i)
 decoded m b (no n) = refusal (m .registers) n
 
 -- 2 or 3
-unfoldable pub fetched : Machine → Lent → WordRead → Planned
-fetched m b (word.Word w) = decoded m b (decode w)
-fetched m b word.NoWord = refusal (m .registers) 2
-fetched m b (word.Refused r) = refusal (m .registers) (numberOf r)
+unfoldable pub fetched : Machine → Lent → Told Reading → Planned
+fetched m b (is (aWord w)) = decoded m b (decode w)
+fetched m b (is noWord) = refusal (m .registers) 2
+fetched m b (no n) = refusal (m .registers) n
 
 -- FLAGS bit 0 set answers Stop
 unfoldable pub plan : Machine → Lent → Planned

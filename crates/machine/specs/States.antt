@@ -1,10 +1,11 @@
 -- A machine's state: valid if its tables are; a new one; setting a register.
 use Prim.Native.Nat.{ℕ}
-use mathlib.Core.Bool.{Bool}
-use mathlib.Core.List.{List}
+use mathlib.Core.Bool.{Bool, not}
+use mathlib.Core.List.{List, [], _∷_}
 use lib.Dec.{ltb, eqb}
 use lib.ListN.{set, replicate}
 use Rattle.base.specs.Choice.{cond}
+use Rattle.base.specs.Order.{Refusing, _when_, firstOf}
 use Rattle.map.specs.Entries.{emptyMap}
 use Rattle.map.specs.Valid as tables
 use Rattle.map.specs.declared.Map.{Map}
@@ -28,9 +29,17 @@ with m s = record { registers = s; mode = m .mode; map = m .map }
 abbrev pub fresh : Bool → Machine
 fresh debug = record { registers = record { value = replicate 8 0 }; mode = record { debug = debug }; map = emptyMap }
 
--- 1, then 18 for a number over 7
+-- a register has a number's value
+unfoldable pub withRegister : Machine → ℕ → ℕ → Machine
+withRegister m number value = with m (record { value = set (m .registers .value) number value })
+
+-- set-register: 18
+unfoldable pub setOrder : ℕ → List Refusing
+setOrder number = 18 when ltb 7 number ∷ []
+
+-- 1 first
 unfoldable pub setNumber : Machine → List ℕ → ℕ → ℕ
-setNumber m dev number = cond (valid m dev) (cond (ltb 7 number) 18 0) 1
+setNumber m dev number = firstOf (1 when not (valid m dev) ∷ setOrder number)
 
 unfoldable pub setMachine : Machine → List ℕ → ℕ → ℕ → Machine
-setMachine m dev number value = cond (eqb (setNumber m dev number) 0) (with m (record { value = set (m .registers .value) number value })) m
+setMachine m dev number value = cond (eqb (setNumber m dev number) 0) (withRegister m number value) m

@@ -34,13 +34,10 @@ stores m b nothing = b
 stores m b (oneByte a v) = storeByte m b a v
 stores m b (oneWord a w) = storeWord m b a w
 
-unfoldable pub wordTo : Reached → ℕ → Storing
-wordTo (At a) w = oneWord a w
-wordTo Past w = nothing
-
-unfoldable pub byteTo : Reached → ℕ → Storing
-byteTo (At a) v = oneByte a v
-byteTo Past v = nothing
+-- at base plus shift, where there is such an address
+unfoldable pub atAddress : Reached → (ℕ → Storing) → Storing
+atAddress (At a) storing = storing a
+atAddress Past storing = nothing
 
 -- the byte that was read
 unfoldable pub copyTo : ℕ → Read → Storing
@@ -62,9 +59,9 @@ storingOf m b (Arith d o Mul) = nothing
 storingOf m b (Arith d o Div) =
     let s = m .registers in cond (flag s 1) (remainderTo s (remainder (get s d) (operand s o))) nothing
 storingOf m b (ArithRegReg d x y op) = nothing
-storingOf m b (LdrStr r a true shift) = let s = m .registers in wordTo (basePlusShift (get s a) shift) (get s r)
+storingOf m b (LdrStr r a true shift) = let s = m .registers in atAddress (basePlusShift (get s a) shift) (λ n. oneWord n (get s r))
 storingOf m b (LdrStr r a false shift) = nothing
-storingOf m b (LdbStb r a true shift) = let s = m .registers in byteTo (basePlusShift (get s a) shift) (lowOf (get s r))
+storingOf m b (LdbStb r a true shift) = let s = m .registers in atAddress (basePlusShift (get s a) shift) (λ n. oneByte n (lowOf (get s r)))
 storingOf m b (LdbStb r a false shift) = nothing
 storingOf m b (Cpy x y) = let s = m .registers in copyTo (get s y) (readByte (m .map) b (get s x))
 storingOf m b (Jmp o) = nothing

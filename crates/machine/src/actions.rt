@@ -50,13 +50,7 @@ fn at_old_sp(m: Map, mem: &[u8], dev: &[u8], s: &[u16; 8], x: Total) -> Changes
 {
     match x {
         Total::Is(v) => {
-            let d = memory::decide_byte(
-                m,
-                mem.len(),
-                dev.len(),
-                get(s, Register::SP),
-                base::low(v),
-            );
+            let d = memory::decide_byte(m, mem, dev, get(s, Register::SP), base::low(v));
             d.changes
         }
         Total::Refused(_) => Changes::Nothing,

@@ -14,9 +14,6 @@ use instruction::Operand;
 use instruction::Register;
 use memory::Changes;
 ghost use mathlib.Core.Path.{_≡_};
-ghost use Rattle.base.specs.Addresses.{raisedPc};
-ghost use Rattle.instruction.specs.declared.Register.the-variants.{PC};
-ghost use Rattle.machine.specs.Registers as reg;
 ghost use Rattle.machine.specs.Acts as act;
 ghost use Rattle.machine.specs.Moves.{Moves};
 ghost use Rattle.machine.specs.Plan.{finished};
@@ -42,7 +39,7 @@ pub fn cond_jmp(s: &[u16; 8], o: Operand) -> Move
 }
 
 fn call(s: &[u16; 8], address: u16) -> Move
-    ensures { λ p. ⌜ Moves (now (s .entry)) p (λ g. finished g (act.call g address (raisedPc (reg.get g PC)))) ⌝ }
+    ensures { λ p. ⌜ Moves (now (s .entry)) p (λ g. finished g (act.call g address)) ⌝ }
 {
     match base::raised_pc(get(s, Register::PC)) {
         Reached::At(n) => land(s, Register::M, n, address),

@@ -15,16 +15,15 @@ use memory::Read;
 use memory::Stored;
 use memory::WordRead;
 ghost use mathlib.Core.Path.{_≡_};
-ghost use Rattle.base.specs.Addresses.{basePlusShift};
 ghost use Rattle.memory.specs.Bytes.{lent};
-ghost use Rattle.machine.specs.Registers as reg;
+ghost use Rattle.memory.specs.Words.{toldWord, decided};
 ghost use Rattle.machine.specs.Acts as act;
 ghost use Rattle.machine.specs.Moves.{Moves};
 ghost use Rattle.machine.specs.Plan.{finished};
 
 // A word that was read goes into r; where there was none, r stays.
 fn load_word(s: &[u16; 8], r: Register, x: WordRead) -> Move
-    ensures { λ p. ⌜ Moves (now (s .entry)) p (λ g. finished g (act.wordLoaded g r x)) ⌝ }
+    ensures { λ p. ⌜ Moves (now (s .entry)) p (λ g. finished g (act.wordLoaded g r (toldWord x))) ⌝ }
 {
     match x {
         WordRead::Word(w) => go_on(s, r, w, Changes::Nothing),
@@ -44,7 +43,7 @@ fn load_byte(s: &[u16; 8], r: Register, x: Read) -> Move
 
 // A store that memory has decided. A failed one sets the flags, and keeps the byte that was taken.
 fn end_store(s: &[u16; 8], d: Decision) -> Move
-    ensures { λ p. ⌜ Moves (now (s .entry)) p (λ g. finished g (act.storing g d)) ⌝ }
+    ensures { λ p. ⌜ Moves (now (s .entry)) p (λ g. finished g (act.storing g (decided d))) ⌝ }
 {
     let c = d.changes;
     let r = d.outcome;
@@ -59,10 +58,7 @@ fn word_at(m: Map, mem: &[u8], dev: &[u8], s: &[u16; 8], r: Register, store: boo
     ensures { λ p. ⌜ Moves (now (s .entry)) p (λ g. finished g (act.wordAt m (lent (now (mem .entry)) (now (dev .entry))) g r store a)) ⌝ }
 {
     if store {
-        end_store(
-            s,
-            memory::decide_word(m, mem.len(), dev.len(), a, get(s, r)),
-        )
+        end_store(s, memory::decide_word(m, mem, dev, a, get(s, r)))
     } else {
         load_word(s, r, memory::read_word(m, mem, dev, a))
     }
@@ -72,10 +68,7 @@ fn byte_at(m: Map, mem: &[u8], dev: &[u8], s: &[u16; 8], r: Register, store: boo
     ensures { λ p. ⌜ Moves (now (s .entry)) p (λ g. finished g (act.byteAt m (lent (now (mem .entry)) (now (dev .entry))) g r store a)) ⌝ }
 {
     if store {
-        end_store(
-            s,
-            memory::decide_byte(m, mem.len(), dev.len(), a, base::low(get(s, r))),
-        )
+        end_store(s, memory::decide_byte(m, mem, dev, a, base::low(get(s, r))))
     } else {
         load_byte(s, r, memory::read_byte(m, mem, dev, a))
     }
@@ -92,7 +85,7 @@ pub fn ldr_str(
     shift: u8,
 ) -> Move
     ensures { λ p.
-        ⌜ Moves (now (s .entry)) p (λ g. finished g (act.ldrStr m (lent (now (mem .entry)) (now (dev .entry))) g r store (basePlusShift (reg.get g addr) shift))) ⌝ }
+        ⌜ Moves (now (s .entry)) p (λ g. finished g (act.addressed g addr shift (act.wordAt m (lent (now (mem .entry)) (now (dev .entry))) g r store))) ⌝ }
 {
     match base::base_plus_shift(get(s, addr), shift) {
         Reached::At(a) => word_at(m, mem, dev, s, r, store, a),
@@ -111,7 +104,7 @@ pub fn ldb_stb(
     shift: u8,
 ) -> Move
     ensures { λ p.
-        ⌜ Moves (now (s .entry)) p (λ g. finished g (act.ldbStb m (lent (now (mem .entry)) (now (dev .entry))) g r store (basePlusShift (reg.get g addr) shift))) ⌝ }
+        ⌜ Moves (now (s .entry)) p (λ g. finished g (act.addressed g addr shift (act.byteAt m (lent (now (mem .entry)) (now (dev .entry))) g r store))) ⌝ }
 {
     match base::base_plus_shift(get(s, addr), shift) {
         Reached::At(a) => byte_at(m, mem, dev, s, r, store, a),
@@ -123,10 +116,7 @@ pub fn cpy(m: Map, mem: &[u8], dev: &[u8], s: &[u16; 8], src: Register, dst: Reg
     ensures { λ p. ⌜ Moves (now (s .entry)) p (λ g. finished g (act.cpy m (lent (now (mem .entry)) (now (dev .entry))) g src dst)) ⌝ }
 {
     match memory::read_byte(m, mem, dev, get(s, src)) {
-        Read::Byte(v, _) => end_store(
-            s,
-            memory::decide_byte(m, mem.len(), dev.len(), get(s, dst), v),
-        ),
+        Read::Byte(v, _) => end_store(s, memory::decide_byte(m, mem, dev, get(s, dst), v)),
         Read::Unmapped => go_on(s, Register::FLAGS, fail(s), Changes::Nothing),
     }
 }

@@ -4,14 +4,14 @@ use Prim.Native.Nat.{ℕ, _+_, _*_, min}
 use mathlib.Core.Bool.{Bool, true, _&&_}
 use lib.Dec.{ltb}
 use Rattle.base.specs.Told.{Told, is, no}
-use Rattle.machine.specs.Answers.{State, Continue, Debug, Stop}
+use Rattle.machine.specs.Answers.{Reply, Continue, Debug, Stop}
 use Rattle.memory.specs.Blocks.{Counted}
 use Rattle.asm.specs.Assemble.{Report, counts, refusal}
 
 abbrev pub coded : ℕ → ℕ → ℕ
 coded code above = code + 65536 * above
 
-abbrev pub stepCode : Told State → ℕ
+abbrev pub stepCode : Told Reply → ℕ
 stepCode (is Continue) = 0
 stepCode (is Debug) = 256
 stepCode (is Stop) = 257

@@ -8,9 +8,9 @@ use Rattle.memory.specs.Bytes.{Lent}
 use Rattle.machine.specs.Answers as answers
 use Rattle.journal.specs.States.{whole}
 use Rattle.journal.specs.declared.State.{State}
-use Rattle.journal.specs.Step.{After, after, step}
+use Rattle.journal.specs.Step.{Result, result, step}
 use Rattle.journal.specs.Run.{Ran, ran, run}
-use Rattle.journal.specs.Back.{Answered, answered, stepBack}
+use Rattle.journal.specs.Back.{Backed, backed, stepBack}
 use Rattle.block.specs.Block.{isBlock, packed, unpacked}
 use Rattle.numbers.specs.Answers.{coded, stepCode}
 use Rattle.seamkettle.specs.Calls.{seen, shown, stepping, running, steppingBack, numberIn, blockAfter}
@@ -44,20 +44,20 @@ module _ (block : List ℕ) (e : isBlock block ≡ false) where
 module _ (block : List ℕ) (e : isBlock block ≡ true) {s : State} (u : s ≡ unpacked block) where
   module _ {t : State} {left : List ℕ} (p : left ≡ packed t) where
     module _ (b : Lent) (j : List ℕ) {c : Lent} {k : List ℕ} {n : ℕ} where
-      pub stepping-some : {a : Told answers.State} → after a (whole t c k) ≡ step (whole s b j) → n ≡ stepCode a
+      pub stepping-some : {a : Told answers.Reply} → result a (whole t c k) ≡ step (whole s b j) → n ≡ stepCode a
           → seen n left c k ≡ stepping block b j
       unfolding stepping
-      stepping-some h m = rw (e, m, p, ← u) (ap (λ (x : After). shown (stepCode (x .answer)) (x .whole)) h)
+      stepping-some h m = rw (e, m, p, ← u) (ap (λ (x : Result). shown (stepCode (x .answer)) (x .whole)) h)
 
-      pub running-some : (steps : ℕ) {a : Told answers.State} {i : ℕ} → ran a i (whole t c k) ≡ run steps (whole s b j)
+      pub running-some : (steps : ℕ) {a : Told answers.Reply} {i : ℕ} → ran a i (whole t c k) ≡ run steps (whole s b j)
           → n ≡ coded (stepCode a) i → seen n left c k ≡ running steps block b j
       unfolding running
       running-some steps h m = rw (e, m, p, ← u) (ap (λ (x : Ran). shown (coded (stepCode (x .answer)) (x .count)) (x .whole)) h)
 
-      pub stepping-back-some : {a : ℕ} → answered a (whole t c k) ≡ stepBack (whole s b j) → n ≡ a
+      pub stepping-back-some : {a : ℕ} → backed a (whole t c k) ≡ stepBack (whole s b j) → n ≡ a
           → seen n left c k ≡ steppingBack block b j
       unfolding steppingBack
-      stepping-back-some h m = rw (e, m, p, ← u) (ap (λ (x : Answered). shown (x .number) (x .whole)) h)
+      stepping-back-some h m = rw (e, m, p, ← u) (ap (λ (x : Backed). shown (x .number) (x .whole)) h)
 
     pub block-some : (entry : State → State) → t ≡ entry s → left ≡ blockAfter block entry
     unfolding blockAfter

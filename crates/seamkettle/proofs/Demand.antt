@@ -8,7 +8,7 @@ use Rattle.map.specs.declared.Map.{Map}
 use Rattle.journal.specs.States.{Whole}
 use Rattle.journal.specs.Step.{step}
 use Rattle.journal.specs.Back.{stepBack}
-use Rattle.journal.specs.Demand.{Move, Step, Back, after, walk}
+use Rattle.journal.specs.Demand.{Move, Step, Back, afterMove, walk}
 use Rattle.journal.proofs.StepLaws.{step-map, step-eight-kept, step-valid}
 use Rattle.journal.proofs.BackLaws.{back-map, back-eight-kept, back-valid}
 use Rattle.journal.proofs.WalkLaws.{after-step, after-back, walk-none, walk-more}
@@ -48,7 +48,7 @@ module _ (w : Whole) (r : Ready w) where
     valid = back-valid w (r .valid);
   }
 
-  ready-after : (m : Move) → Ready (after w m)
+  ready-after : (m : Move) → Ready (afterMove w m)
   ready-after Step = subst⁻¹ Ready (after-step w) ready-step
   ready-after Back = subst⁻¹ Ready (after-back w) ready-back
 
@@ -57,7 +57,7 @@ module _ (w : Whole) (r : Ready w) where
     shows : {u : Seen} (n : ℕ) (x : Whole) → u ≡ shown n x → Holds u x
     shows n x e = record { block = ap (λ (y : Seen). y .block) e; bytes = ap (λ (y : Seen). y .bytes) e; journal = ap (λ (y : Seen). y .journal) e }
 
-    holds-after : (m : Move) → Holds (call v m) (after w m)
+    holds-after : (m : Move) → Holds (call v m) (afterMove w m)
     unfolding call
     holds-after Step =
         let e : stepping (v .block) (v .bytes) (v .journal) ≡ shown (stepCode (step w .answer)) (step w .whole) = rw (h .block, h .bytes, h .journal) step-called in
@@ -71,4 +71,4 @@ unfolding calls
 calls-walk w r v h [] = subst⁻¹ (Holds v) (walk-none w) h
 calls-walk w r v h (m ∷ rest) =
     subst⁻¹ (Holds (calls (call v m) rest)) (walk-more w m rest)
-    (calls-walk (after w m) (ready-after w r m) (call v m) (holds-after w r v h m) rest)
+    (calls-walk (afterMove w m) (ready-after w r m) (call v m) (holds-after w r v h m) rest)

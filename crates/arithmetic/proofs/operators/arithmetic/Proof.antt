@@ -1,5 +1,5 @@
 -- Each operator calls its function. Assumes nothing.
-use Rattle.arithmetic.specs.Operators.{arithmeticOf}
+use Rattle.arithmetic.specs.Operators.{arithmeticResult}
 use borrow.Author.Needs.{needs}
 use Rattle.arithmetic.proofs.operators.arithmetic.Statement.{statement}
 use Rattle.arithmetic.proofs.operators.arithmetic.Tie as tie
@@ -47,31 +47,31 @@ root-requires : tie.Need-root-requires
 root-requires c κs = search needs
 
 returns : tie.Need-returns
-unfolding arithmeticOf
+unfolding arithmeticResult
 returns c = rw (c .before .enum-told .given .1) (c .sum .ensures)
 
 returns-2 : tie.Need-returns-2
-unfolding arithmeticOf
+unfolding arithmeticResult
 returns-2 c = rw (c .before .enum-told2 .given .1) (c .difference .ensures)
 
 returns-3 : tie.Need-returns-3
-unfolding arithmeticOf
+unfolding arithmeticResult
 returns-3 c = rw (c .before .enum-told3 .given .1) (c .product .ensures)
 
 returns-4 : tie.Need-returns-4
-unfolding arithmeticOf
+unfolding arithmeticResult
 returns-4 c = rw (c .before .enum-told4 .given .1) (c .quotient .ensures)
 
 returns-5 : tie.Need-returns-5
-unfolding arithmeticOf
+unfolding arithmeticResult
 returns-5 c = rw (c .before .enum-told5 .given .1) (c .remainder .ensures)
 
 returns-6 : tie.Need-returns-6
-unfolding arithmeticOf
+unfolding arithmeticResult
 returns-6 c = rw (c .before .enum-told6 .given .1) (c .power .ensures)
 
 returns-7 : tie.Need-returns-7
-unfolding arithmeticOf
+unfolding arithmeticResult
 returns-7 c = rw (c .before .enum-told7 .given .1, c .root .ensures)
 
 pub arithmetic-spec : {M : Type 1} → statement M

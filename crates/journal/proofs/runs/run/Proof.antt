@@ -10,7 +10,7 @@ use Rattle.machine.specs.Answers.{answered}
 use Rattle.memory.specs.Bytes.{lent}
 use Rattle.journal.specs.declared.State.{State}
 use Rattle.journal.specs.States.{Whole, whole, valid}
-use Rattle.journal.specs.Step.{after, step}
+use Rattle.journal.specs.Step.{result, step}
 use Rattle.journal.specs.Turns.{Going, stateOf, goingFrom}
 use Rattle.journal.specs.Run.{goesOn, repeated, run}
 use Rattle.records.proofs.Laws.{room-length}
@@ -109,7 +109,7 @@ returns-2 c =
     let put = c .before .before .before .before .before .store in
     let u = of (goingFrom (put .last .0) (q .result .ring)) in
     let z = stored (h .g) (put .last .0) (q .result) (put .ensures) in
-    let e : after a u ≡ step w = ap (λ (y : Going). after a (of y)) z ∙ q .ensures .0 in
+    let e : result a u ≡ step w = ap (λ (y : Going). result a (of y)) z ∙ q .ensures .0 in
     let more = t .before .before .before .before .before .loop-test .taken in
     let f : valid (x .s) (now (x .dev)) (now (x .journal)) ≡ true = sym (l .before .before .before .before .before .before .before .before .before .valid .ensures) ∙ not-false _ (l .before .before .before .before .before .before .before .before .if1 .left) in
     let g : goesOn a ≡ false = sym (c .before .before .before .goes-on .ensures) ∙ not-true _ (c .before .before .if2 .taken) in
@@ -141,7 +141,7 @@ loop-again c =
     let put = c .before .before .before .store in
     let u = of (goingFrom (put .last .0) (q .result .ring)) in
     let z = stored (h .g) (put .last .0) (q .result) (put .ensures) in
-    let e : after a u ≡ step w = ap (λ (y : Going). after a (of y)) z ∙ q .ensures .0 in
+    let e : result a u ≡ step w = ap (λ (y : Going). result a (of y)) z ∙ q .ensures .0 in
     let more = t .before .before .before .before .before .loop-test .taken in
     let g : goesOn a ≡ true = sym (c .before .goes-on .ensures) ∙ not-false _ (c .if2 .left) in
     let k = ap (λ (y : Going). valid (stateOf y mode map) (q .last .1 .1 .1 .1 .1 .0) (q .last .1 .1 .1 .1 .1 .1 .0)) z ∙ q .ensures .1 in

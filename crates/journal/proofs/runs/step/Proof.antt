@@ -3,7 +3,7 @@ use mathlib.Core.Path.{ap, _∙_}
 use denote.Ref.{now}
 use Rattle.memory.specs.Bytes.{lent}
 use Rattle.journal.specs.States.{whole}
-use Rattle.journal.specs.Step.{after}
+use Rattle.journal.specs.Step.{result}
 use Rattle.journal.specs.Run.{Ran}
 use Rattle.journal.proofs.RunTurns.{run-one}
 use borrow.Author.Needs.{needs}
@@ -25,7 +25,7 @@ same-length-3 c = c .before .before .before .before .before .before .before .run
 returns : tie.Need-returns
 returns c =
     let x = c .before .before .before .before .before .before .before .before .before .before .before .before .before .before .args in
-    ap (λ (y : Ran). after (y .answer) (y .whole)) (c .before .before .before .before .before .before .before .run .ensures) ∙ run-one (whole (x .s) (lent (now (x .mem)) (now (x .dev))) (now (x .journal)))
+    ap (λ (y : Ran). result (y .answer) (y .whole)) (c .before .before .before .before .before .before .before .run .ensures) ∙ run-one (whole (x .s) (lent (now (x .mem)) (now (x .dev))) (now (x .journal)))
 
 pub step-spec : {M : Type 1} → statement M
 step-spec = tie.close (tie.spec run-requires same-length same-length-2 same-length-3 returns)

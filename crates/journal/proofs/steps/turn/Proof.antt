@@ -16,7 +16,7 @@ use Rattle.records.specs.Slots.{room}
 use Rattle.journal.specs.declared.State.{State}
 use Rattle.journal.specs.States.{whole, state, valid}
 use Rattle.journal.specs.Turns.{Going, stateOf, goingFrom, goingAfter}
-use Rattle.journal.specs.Step.{after, isAccepted, recordOf, advanced, noted}
+use Rattle.journal.specs.Step.{result, isAccepted, recordOf, advanced, noted}
 use Rattle.journal.proofs.StateLaws.{valid-held, valid-next}
 use Rattle.journal.proofs.TakenLaws.{planOf, step-not, step-made, made-valid}
 use borrow.Author.Needs.{needs}
@@ -50,7 +50,7 @@ returns c =
     let u = c .unmoved .ensures in
     let y = whole (stateOf (goingAfter (now (x .g)) (c .unmoved .result)) (x .mode) (x .map)) b j in
     let h : y ≡ w = ap (λ (g : Going). whole (stateOf g (x .mode) (x .map)) b j) (u .1) in
-    (ap (λ (a : StepAnswer). after (answered a) y) (u .0) ∙ ap (after (answered (c .before .before .before .move-of .result .answer))) h ∙ ap (λ (p : Planned). after (p .answer) w) e ∙ sym (step-not w v f), ap (λ (g : Going). valid (stateOf g (x .mode) (x .map)) (now (x .dev)) j) (u .1) ∙ v)
+    (ap (λ (a : StepAnswer). result (answered a) y) (u .0) ∙ ap (result (answered (c .before .before .before .move-of .result .answer))) h ∙ ap (λ (p : Planned). result (p .answer) w) e ∙ sym (step-not w v f), ap (λ (g : Going). valid (stateOf g (x .mode) (x .map)) (now (x .dev)) j) (u .1) ∙ v)
 
 note-requires : tie.Need-note-requires
 note-requires c κs =

@@ -1,6 +1,6 @@
 -- Memory decides the store at SP. Assumes nothing.
 use mathlib.Core.Path.{ap, _∙_}
-use Rattle.memory.specs.declared.Decision.{Decision}
+use Rattle.memory.specs.Words.{Decided}
 use Rattle.machine.specs.Acts.{atOldSp}
 use borrow.Author.Needs.{needs}
 use Rattle.machine.proofs.actions.at_old_sp.Statement.{statement}
@@ -23,7 +23,7 @@ enum-told c = search needs
 
 returns : tie.Need-returns
 unfolding atOldSp
-returns c = ap (λ (d : Decision). d .changes) (c .decide-byte .ensures) ∙ rw (c .before .low .ensures, c .before .before .get .ensures, c .before .before .before .before .x .given .1)
+returns c = ap (λ (d : Decided). d .changes) (c .decide-byte .ensures) ∙ rw (c .before .low .ensures, c .before .before .get .ensures, c .before .before .before .before .x .given .1)
 
 returns-2 : tie.Need-returns-2
 unfolding atOldSp

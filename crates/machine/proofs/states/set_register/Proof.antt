@@ -1,7 +1,7 @@
 -- The tests stand in the definition's order. Assumes nothing.
 use mathlib.Core.Path.{sym, _∙_}
 use borrow.Author.Tests.{not-true, not-false, lt-ltb, le-ltb}
-use Rattle.machine.specs.States.{setNumber, setMachine}
+use Rattle.machine.specs.States.{setOrder, setNumber, withRegister, setMachine}
 use borrow.Author.Needs.{needs}
 use Rattle.machine.proofs.states.set_register.Statement.{statement}
 use Rattle.machine.proofs.states.set_register.Tie as tie
@@ -14,7 +14,7 @@ unfolding setNumber setMachine
 returns c = let v = sym (c .before .valid .ensures) ∙ not-true _ (c .if1 .taken) in (rw v, rw v)
 
 returns-2 : tie.Need-returns-2
-unfolding setNumber setMachine
+unfolding setNumber setOrder setMachine
 returns-2 c =
     let v = sym (c .before .before .valid .ensures) ∙ not-false _ (c .before .if1 .left) in
     let h = lt-ltb 7 (c .before .before .before .before .args .number) (c .if2 .taken) in (rw (v, h), rw (v, h))
@@ -29,7 +29,7 @@ with-registers-requires : tie.Need-with-registers-requires
 with-registers-requires c κs = search needs
 
 returns-3 : tie.Need-returns-3
-unfolding setNumber setMachine
+unfolding setNumber setOrder setMachine withRegister
 returns-3 c =
     let v = sym (c .before .before .before .before .valid .ensures) ∙ not-false _ (c .before .before .before .if1 .left) in
     let h = le-ltb 7 (c .before .before .before .before .before .before .args .number) (c .before .before .if2 .left) in (rw (v, h), c .with-registers .ensures ∙ rw (v, h))

@@ -4,8 +4,9 @@ use Prim.Native.Nat.{ℕ}
 use mathlib.Core.Bool.{true, false}
 use denote.Ref.{now}
 use Rattle.memory.specs.Bytes.{lent}
-use Rattle.memory.specs.Words.{readWord}
-use Rattle.memory.specs.declared.WordRead.the-variants.{Word, NoWord, Refused}
+use Rattle.base.specs.Numbers.{numberOf}
+use Rattle.base.specs.Told.{is, no}
+use Rattle.memory.specs.Words.{aWord, noWord, toldWord, readWord}
 use Rattle.instruction.specs.declared.Register.the-variants.{PC}
 use Rattle.machine.specs.Registers.{get, flag}
 use Rattle.machine.specs.Plan.{fetched, plan}
@@ -57,7 +58,7 @@ returns-2 c =
     let b = lent (now (x .mem)) (now (x .dev)) in
     let s = regs (now (x .s)) in
     let f : flag s 0 ≡ false = sym (c .before .before .before .before .before .before .before .flag .ensures) ∙ c .before .before .before .before .before .before .if1 .left in
-    let e : readWord (x .map) b (get s PC) ≡ Word (c .before .before .w .given .0 .0) = ap (λ (a : ℕ). readWord (x .map) b a) (sym (c .before .before .before .before .before .get .ensures)) ∙ sym (c .before .before .before .before .fetch-word .ensures) ∙ c .before .before .w .given .1 in
+    let e : readWord (x .map) b (get s PC) ≡ is (aWord (c .before .before .w .given .0 .0)) = ap (λ (a : ℕ). readWord (x .map) b a) (sym (c .before .before .before .before .before .get .ensures)) ∙ sym (c .before .before .before .before .fetch-word .ensures) ∙ ap toldWord (c .before .before .w .given .1) in
     c .act-on-word .ensures ∙ rw (f, e)
 
 returns-3 : tie.Need-returns-3
@@ -67,7 +68,7 @@ returns-3 c =
     let b = lent (now (x .mem)) (now (x .dev)) in
     let s = regs (now (x .s)) in
     let f : flag s 0 ≡ false = sym (c .before .before .before .before .before .before .flag .ensures) ∙ c .before .before .before .before .before .if1 .left in
-    let e : readWord (x .map) b (get s PC) ≡ NoWord = ap (λ (a : ℕ). readWord (x .map) b a) (sym (c .before .before .before .before .get .ensures)) ∙ sym (c .before .before .before .fetch-word .ensures) ∙ c .before .enum-told .given .1 in
+    let e : readWord (x .map) b (get s PC) ≡ is noWord = ap (λ (a : ℕ). readWord (x .map) b a) (sym (c .before .before .before .before .get .ensures)) ∙ sym (c .before .before .before .fetch-word .ensures) ∙ ap toldWord (c .before .enum-told .given .1) in
     c .refused .ensures ∙ rw (f, e)
 
 returns-4 : tie.Need-returns-4
@@ -77,7 +78,7 @@ returns-4 c =
     let b = lent (now (x .mem)) (now (x .dev)) in
     let s = regs (now (x .s)) in
     let f : flag s 0 ≡ false = sym (c .before .before .before .before .before .before .before .flag .ensures) ∙ c .before .before .before .before .before .before .if1 .left in
-    let e : readWord (x .map) b (get s PC) ≡ Refused (c .before .before .r .given .0 .0) = ap (λ (a : ℕ). readWord (x .map) b a) (sym (c .before .before .before .before .before .get .ensures)) ∙ sym (c .before .before .before .before .fetch-word .ensures) ∙ c .before .before .r .given .1 in
+    let e : readWord (x .map) b (get s PC) ≡ no (numberOf (c .before .before .r .given .0 .0)) = ap (λ (a : ℕ). readWord (x .map) b a) (sym (c .before .before .before .before .before .get .ensures)) ∙ sym (c .before .before .before .before .fetch-word .ensures) ∙ ap toldWord (c .before .before .r .given .1) in
     c .refused2 .ensures ∙ rw (f, e)
 
 pub move-of-spec : {M : Type 1} → statement M

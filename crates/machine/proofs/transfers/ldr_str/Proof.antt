@@ -5,7 +5,7 @@ use Prim.Native.Nat.{ℕ}
 use Rattle.base.specs.Addresses.{basePlusShift}
 use Rattle.base.specs.declared.addresses.Reached.the-variants.{At, Past}
 use Rattle.machine.specs.Registers.{get}
-use Rattle.machine.specs.Acts.{ldrStr}
+use Rattle.machine.specs.Acts.{addressed}
 use Rattle.machine.specs.Plan.{finished}
 use Rattle.machine.specs.Moves.{regs}
 use borrow.Author.Needs.{needs}
@@ -31,14 +31,14 @@ refused-requires : tie.Need-refused-requires
 refused-requires c κs = search needs
 
 returns : tie.Need-returns
-unfolding ldrStr
+unfolding addressed
 returns c =
     let x = c .before .before .before .before .before .before .before .before .args in
     let e : basePlusShift (get (regs (now (x .s))) (x .addr)) (x .shift) ≡ At (c .before .before .a .given .0 .0) = ap (λ (n : ℕ). basePlusShift n (x .shift)) (sym (c .before .before .before .before .before .get .ensures)) ∙ sym (c .before .before .before .before .base-plus-shift .ensures) ∙ c .before .before .a .given .1 in
     c .word-at .ensures ∙ rw (e)
 
 returns-2 : tie.Need-returns-2
-unfolding ldrStr finished
+unfolding addressed finished
 returns-2 c =
     let x = c .before .before .before .before .before .before .before .args in
     let e : basePlusShift (get (regs (now (x .s))) (x .addr)) (x .shift) ≡ Past = ap (λ (n : ℕ). basePlusShift n (x .shift)) (sym (c .before .before .before .before .get .ensures)) ∙ sym (c .before .before .before .base-plus-shift .ensures) ∙ c .before .enum-told .given .1 in

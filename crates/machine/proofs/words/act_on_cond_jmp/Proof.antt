@@ -27,7 +27,7 @@ returns c =
     let w = c .before .before .before .before .args .w in
     let o = c .before .before .before .operand-at .result in
     let d : conditional (operandAt w 4 11) ≡ conditional o = sym (ap conditional (c .before .before .before .operand-at .ensures)) in
-    let e : conditional o ≡ Jmp o = c .before .before .jumps-always .ensures ∙ rw (c .before .if1 .taken) in
+    let e : conditional o ≡ Jmp o = rw (sym (c .before .before .jumps-always .ensures) ∙ c .before .if1 .taken) in
     λ mode map b. c .jmp .ensures ∙ rw (decode-cond-jmp w (c .before .before .before .before .pre), d, e)
 
 returns-2 : tie.Need-returns-2
@@ -36,7 +36,7 @@ returns-2 c =
     let w = c .before .before .before .before .args .w in
     let o = c .before .before .before .operand-at .result in
     let d : conditional (operandAt w 4 11) ≡ conditional o = sym (ap conditional (c .before .before .before .operand-at .ensures)) in
-    let e : conditional o ≡ CondJmp o = c .before .before .jumps-always .ensures ∙ rw (c .before .if1 .left) in
+    let e : conditional o ≡ CondJmp o = rw (sym (c .before .before .jumps-always .ensures) ∙ c .before .if1 .left) in
     λ mode map b. c .cond-jmp .ensures ∙ rw (decode-cond-jmp w (c .before .before .before .before .pre), d, e)
 
 pub act-on-cond-jmp-spec : {M : Type 1} → statement M

@@ -25,8 +25,7 @@ unfolding wordDecision
 returns c =
     let s = c .before .before .before .before .before .before .before .before .before .before .before .before in
     let d = c .before .before .before .before .before .before .before .decide-word in
-    let bytes = lent (now (s .args .mem)) (now (s .args .dev)) in
-    (
+    let bytes = lent (now (s .args .mem)) (now (s .args .dev)) in (
       ap (λ (x : Decided). x .outcome) (d .ensures),
       c .before .before .before .before .make .ensures ∙ ap (λ (x : Decided). made (x .changes) bytes) (d .ensures) ∙ decision-makes (s .args .m) bytes (s .args .a) (s .args .w),
     )
