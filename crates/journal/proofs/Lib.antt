@@ -11,3 +11,5 @@ pub mod RunTurns
 pub mod RunLaws
 pub mod ReturnLaws
 pub mod MarkedLaw
+pub mod CountLaws
+pub mod StepNumbers
