@@ -10,6 +10,7 @@ use lib.Bits.{or-lt}
 use lib.Dec.{eqb, leb, lit<}
 use lib.Pow.{shr-le}
 use borrow.Author.Tests.{leb-true, leb-false}
+use Rattle.base.proofs.ToldLaws.{Numbered, or-numbered, first-numbered}
 use Rattle.base.specs.Choice.{cond}
 use Rattle.base.specs.Numbers.{numberOf}
 use Rattle.base.proofs.Laws.{number-one}
@@ -174,3 +175,34 @@ total-one (Is n) (Is k) e = ap Is (is-one n k e)
 total-one (Is n) (Refused r) e = is-not-no n (numberOf r) e
 total-one (Refused r) (Is n) e = is-not-no n (numberOf r) (sym e)
 total-one (Refused r) (Refused q) e = ap Refused (number-one r q (no-one (numberOf r) (numberOf q) e))
+
+-- ---- 7 or 8
+
+fitted-numbered : (n : ℕ) → Numbered 7 8 (fitted n)
+unfolding fitted
+fitted-numbered n = or-numbered (leb n 65535) n 7 7 8 (omega arith, omega arith)
+
+module _ (a b : ℕ) where
+  difference-numbered : Numbered 7 8 (difference a b)
+  unfolding difference
+  difference-numbered = or-numbered (leb b a) (a - b) 7 7 8 (omega arith, omega arith)
+
+  divided-numbered : (v : ℕ) → Numbered 7 8 (cond (eqb b 0) (no 8) (is v))
+  divided-numbered v = first-numbered (eqb b 0) v 8 7 8 (omega arith, omega arith)
+
+pub arith-numbered : (op : ArithOp) (a b : ℕ) → Numbered 7 8 (arithResult op a b)
+unfolding arithResult sum product quotient
+arith-numbered four.Add a b = fitted-numbered (a + b)
+arith-numbered four.Sub a b = difference-numbered a b
+arith-numbered four.Mul a b = fitted-numbered (a * b)
+arith-numbered four.Div a b = divided-numbered a b (a / b)
+
+pub arithmetic-numbered : (op : ArithmeticOp) (a b : ℕ) → Numbered 7 8 (arithmeticResult op a b)
+unfolding arithmeticResult sum product quotient remainder power
+arithmetic-numbered seven.Add a b = fitted-numbered (a + b)
+arithmetic-numbered seven.Sub a b = difference-numbered a b
+arithmetic-numbered seven.Mul a b = fitted-numbered (a * b)
+arithmetic-numbered seven.Div a b = divided-numbered a b (a / b)
+arithmetic-numbered seven.Mod a b = divided-numbered a b (a % b)
+arithmetic-numbered seven.Exp a b = fitted-numbered (a ^ b)
+arithmetic-numbered seven.Sqrt a b = tt

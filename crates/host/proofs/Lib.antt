@@ -1,3 +1,4 @@
 pub mod AnswerLaws
+pub mod Below
 pub mod Laws
 pub mod Far

@@ -14,6 +14,7 @@ use Rattle.journal.specs.States.{Whole, validWhole}
 use Rattle.journal.specs.Step.{Result, isAccepted, step}
 use Rattle.journal.specs.Run.{Ran, ran, oneMore, goesOn, counts, repeated, run}
 use Rattle.journal.specs.Demand.{Step, afterMove, walk, steps}
+use Rattle.journal.proofs.WalkLaws.{walk-none}
 use Rattle.journal.proofs.StepLaws.{invalid-step, step-kept, step-eight-kept, step-valid}
 
 -- what is said of a run of at most n steps from w
@@ -98,6 +99,10 @@ module _ (n : ℕ) (w : Whole) where
 
   pub run-steps : steps w (replicate (run n w .count) Step) ≡ run n w .count
   run-steps = run-walks .accepted
+
+  -- one that counts none changes nothing: it was refused at once, at Stop, or a run of 0 steps
+  pub run-kept : run n w .count ≡ 0 → run n w .whole ≡ w
+  run-kept h = run-walk ∙ ap (λ (k : ℕ). walk w (replicate k Step)) h ∙ walk-none w
 
 -- ---- what every run keeps
 

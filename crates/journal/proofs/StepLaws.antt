@@ -1,6 +1,6 @@
 -- What everyone above may use of the recording step: it is the machine's own step, with one record more where it is accepted,
 -- so what the machine and the ring keep is kept. Assumes nothing.
-use Prim.Native.Nat.{_+_, _<_, min}
+use Prim.Native.Nat.{ℕ, _+_, _<_, _≤_, min}
 use mathlib.Core.Path.{_≡_, refl, sym, ap, _∙_, subst⁻¹}
 use mathlib.Core.Bool.{Bool, true, false}
 use lib.Dec.{eqb}
@@ -9,6 +9,7 @@ use borrow.Author.Tests.{eqb-true, eqb-false, eq-eqb, ne-eqb}
 use native.Mathlib.Omega.{arith}
 use Rattle.base.specs.Told.{Told, is, no}
 use Rattle.base.proofs.Tests.{clash}
+use Rattle.base.proofs.ToldLaws.{Numbered}
 use Rattle.machine.specs.Answers as answers
 use Rattle.machine.specs.Plan.{plan}
 use Rattle.machine.specs.Step as machine
@@ -222,3 +223,24 @@ module _ (w : Whole) where
             machine = ap (λ (v : Whole). v .state .machine) (step-kept e) ∙ sym (ap (λ (x : machine.After). x .machine) q);
             bytes = ap (λ (v : Whole). v .bytes) (step-kept e) ∙ sym (ap (λ (x : machine.After). x .bytes) q);
           }
+
+  -- ---- a refused step's number is 1 to 9
+
+  step-numbered : Numbered 1 9 (step w .answer)
+  step-numbered = go (validWhole w) refl
+    where
+      go : (t : Bool) → validWhole w ≡ t → Numbered 1 9 (step w .answer)
+      go true h = subst⁻¹ (Numbered 1 9) (step-answer h) (machine-laws.step-numbered (w .state .machine) (w .bytes))
+      go false h = subst⁻¹ (λ (x : Result). Numbered 1 9 (x .answer)) (invalid-step h) (omega arith, omega arith)
+
+  -- so what holds of Continue and Debug as accepted, and of Stop and these numbers as not accepted, holds of every step's answer
+  pub every-answer : (P : Told answers.Reply → Bool → Type 0) → P (is answers.Continue) true → P (is answers.Debug) true
+      → P (is answers.Stop) false → ((n : ℕ) → 1 ≤ n → n ≤ 9 → P (no n) false) → P (step w .answer) (isAccepted (step w .answer))
+  unfolding isAccepted
+  every-answer P continues debugs stops refused = go (step w .answer) step-numbered
+    where
+      go : (a : Told answers.Reply) → Numbered 1 9 a → P a (isAccepted a)
+      go (is answers.Continue) h = continues
+      go (is answers.Debug) h = debugs
+      go (is answers.Stop) h = stops
+      go (no n) h = refused n (h .0) (h .1)

@@ -1,15 +1,19 @@
 -- Three properties, of answers, of registers and of what is stored, hold of every act, and so of every plan, where they hold of
--- its parts: by cases on the twelve instructions, once for all that is to be known of them. Assumes nothing.
+-- its parts, and what is refused is refused with 2 to 9: by cases on the twelve instructions, once for all that is to be known of
+-- them. Assumes nothing.
 use mathlib.Core.Path.{_≡_, refl}
 use mathlib.Core.Bool.{Bool, true, false}
-use Prim.Native.Nat.{ℕ}
+use Prim.Native.Nat.{ℕ, _≤_}
+use native.Mathlib.Omega as Omega
 use Rattle.base.specs.Choice.{cond}
 use Rattle.base.specs.Told.{Told, is, no, _>>=_}
 use Rattle.base.specs.Words.{lowOf}
 use Rattle.base.specs.Addresses.{basePlusShift, raisedPc, addressOr}
 use Rattle.base.specs.declared.addresses.Reached.{Reached}
 use Rattle.base.specs.declared.addresses.Reached.the-variants.{At, Past}
+use Rattle.base.proofs.ToldLaws.{Numbered}
 use Rattle.instruction.specs.Decode.{decode}
+use Rattle.instruction.proofs.DecodedLaws.{decode-numbered}
 use Rattle.instruction.specs.declared.Register.{Register}
 use Rattle.instruction.specs.declared.Register.the-variants.{M, PC, FLAGS}
 use Rattle.instruction.specs.declared.Operand.{Operand}
@@ -18,6 +22,7 @@ use Rattle.instruction.specs.declared.ArithOp.the-variants.{Add, Sub, Mul, Div}
 use Rattle.instruction.specs.declared.Instruction.{Instruction}
 use Rattle.instruction.specs.declared.Instruction.the-variants.{Noop, Mov, MovShift, Arith, ArithRegReg, LdrStr, LdbStb, Cpy, Jmp, CondJmp, Cmp, CallRet}
 use Rattle.arithmetic.specs.Operators.{arithResult, arithmeticResult}
+use Rattle.arithmetic.proofs.Laws.{arith-numbered, arithmetic-numbered}
 use Rattle.arithmetic.specs.Compares.{compare}
 use Rattle.arithmetic.specs.Flags.{compared, failed}
 use Rattle.arithmetic.specs.Shifts.{moved}
@@ -26,6 +31,8 @@ use Rattle.map.specs.declared.Map.{Map}
 use Rattle.memory.specs.Bytes.{Lent, readByte}
 use Rattle.memory.specs.Words.{Reading, aWord, noWord, readWord, Ending, Decided, byteDecision, wordDecision}
 use Rattle.memory.specs.Words as memory
+use Rattle.memory.proofs.Decisions.{byte-numbered, word-numbered}
+use Rattle.memory.proofs.WordLaws.{read-numbered}
 use Rattle.memory.specs.declared.Read.{Read}
 use Rattle.memory.specs.declared.Read.the-variants.{Byte, Unmapped}
 use Rattle.memory.specs.declared.Changes.{Changes}
@@ -70,12 +77,12 @@ module _ (m : Machine) (b : Lent) (properties : Properties m) where
   abbrev pub Good : Told Act → Type 0
   Good (is (next a t c)) = Answered a × Held t × Stores c
   Good (is (jump t)) = Held t × Stores Nothing
-  Good (no n) = Unit {0}
+  Good (no n) = (2 ≤ n) × (n ≤ 9)
 
-  -- a plan by its answer: one that is refused is the refusal, and changes nothing
+  -- a plan by its answer: one that is refused is the refusal, with 2 to 9, and changes nothing
   abbrev pub GoodAs : Planned → Told Reply → Type 0
   GoodAs p (is a) = Answered a × Held (p .registers) × Stores (p .changes)
-  GoodAs p (no n) = p ≡ plans (no n) s Nothing
+  GoodAs p (no n) = (p ≡ plans (no n) s Nothing) × (2 ≤ n) × (n ≤ 9)
 
   abbrev pub GoodPlan : Planned → Type 0
   GoodPlan p = GoodAs p (p .answer)
@@ -89,10 +96,10 @@ module _ (m : Machine) (b : Lent) (properties : Properties m) where
   noop-answers true = debugs
   noop-answers false = continues
 
-  result-good : (d : Register) (c : Changes) (x : Told ℕ) → Stores c → Good (result s d c x)
+  result-good : (d : Register) (c : Changes) (x : Told ℕ) → Numbered 7 8 x → Stores c → Good (result s d c x)
   unfolding result
-  result-good d c (is v) h = (continues, one-put d v, h)
-  result-good d c (no n) h = tt
+  result-good d c (is v) k h = (continues, one-put d v, h)
+  result-good d c (no n) k h = (omega (Omega.arith, k .0), omega (Omega.arith, k .1))
 
   kept-stores : (d : Register) (o : Operand) (op : ArithOp) → StoresOf (storingOf m b (Arith d o op))
       → Stores (kept (m .map) b s op (get s d) (operand s o))
@@ -121,15 +128,15 @@ module _ (m : Machine) (b : Lent) (properties : Properties m) where
     where
       go : (x : Reached) → Good (addressOr 9 x >>= λ n. is (jump (put (put s PC address) M n)))
       go (At n) = (puts (put s PC address) M n (one-put PC address), h)
-      go Past = tt
+      go Past = (omega Omega.arith, omega Omega.arith)
 
   -- ---- loads and stores
 
-  word-loaded-good : (r : Register) (x : Told Reading) → Stores Nothing → Good (wordLoaded s r x)
+  word-loaded-good : (r : Register) (x : Told Reading) → Numbered 3 3 x → Stores Nothing → Good (wordLoaded s r x)
   unfolding wordLoaded
-  word-loaded-good r (is (aWord w)) h = (continues, one-put r w, h)
-  word-loaded-good r (is noWord) h = (continues, starts, h)
-  word-loaded-good r (no n) h = tt
+  word-loaded-good r (is (aWord w)) k h = (continues, one-put r w, h)
+  word-loaded-good r (is noWord) k h = (continues, starts, h)
+  word-loaded-good r (no n) k h = (omega (Omega.arith, k .0), omega (Omega.arith, k .1))
 
   byte-loaded-good : (r : Register) (x : Read) → Stores Nothing → Good (byteLoaded s r x)
   unfolding byteLoaded
@@ -140,14 +147,17 @@ module _ (m : Machine) (b : Lent) (properties : Properties m) where
   unfolding fault
   fault-held = one-put FLAGS (failed (get s FLAGS))
 
-  storing-good : (d : Decided) → Stores (d .changes) → Good (storing s d)
+  storing-good : (d : Decided) → Numbered 3 3 (d .outcome) → Stores (d .changes) → Good (storing s d)
   unfolding storing ended
-  storing-good d h = go (d .outcome)
+  storing-good d k h = go (d .outcome) k
     where
-      go : (x : Told Ending) → Good (ended s (d .changes) x)
-      go (is memory.done) = (continues, starts, h)
-      go (is memory.failed) = (continues, fault-held, h)
-      go (no n) = tt
+      go : (x : Told Ending) → Numbered 3 3 x → Good (ended s (d .changes) x)
+      go (is memory.done) k = (continues, starts, h)
+      go (is memory.failed) k = (continues, fault-held, h)
+      go (no n) k = (omega (Omega.arith, k .0), omega (Omega.arith, k .1))
+
+  byte-good : (a v : ℕ) → StoresOf (oneByte a v) → Good (storing s (byteDecision (m .map) b a v))
+  byte-good a v h = storing-good (byteDecision (m .map) b a v) (byte-numbered (m .map) b a v) h
 
   -- an act at an address, by what it stores at each
   addressed-good : (a : Register) (shift : ℕ) (acts : ℕ → Told Act) (storing : ℕ → Storing) → ((n : ℕ) → StoresOf (storing n) → Good (acts n))
@@ -157,7 +167,7 @@ module _ (m : Machine) (b : Lent) (properties : Properties m) where
     where
       go : (x : Reached) → StoresOf (atAddress x storing) → Good (addressOr 3 x >>= acts)
       go (At n) h = good n h
-      go Past h = tt
+      go Past h = (omega Omega.arith, omega Omega.arith)
 
   -- a load stores nothing, wherever it is
   load-good : (a : Register) (shift : ℕ) (acts : ℕ → Told Act) → ((n : ℕ) → Good (acts n)) → Good (addressed s a shift acts)
@@ -166,19 +176,19 @@ module _ (m : Machine) (b : Lent) (properties : Properties m) where
     where
       go : (x : Reached) → Good (addressOr 3 x >>= acts)
       go (At n) = good n
-      go Past = tt
+      go Past = (omega Omega.arith, omega Omega.arith)
 
   str-good : (r : Register) (a : ℕ) → StoresOf (oneWord a (get s r)) → Good (wordAt (m .map) b s r true a)
   unfolding wordAt
-  str-good r a h = storing-good (wordDecision (m .map) b a (get s r)) h
+  str-good r a h = storing-good (wordDecision (m .map) b a (get s r)) (word-numbered (m .map) b a (get s r)) h
 
   ldr-good : (r : Register) → Stores Nothing → (a : ℕ) → Good (wordAt (m .map) b s r false a)
   unfolding wordAt
-  ldr-good r h a = word-loaded-good r (readWord (m .map) b a) h
+  ldr-good r h a = word-loaded-good r (readWord (m .map) b a) (read-numbered (m .map) b a) h
 
   stb-good : (r : Register) (a : ℕ) → StoresOf (oneByte a (lowOf (get s r))) → Good (byteAt (m .map) b s r true a)
   unfolding byteAt
-  stb-good r a h = storing-good (byteDecision (m .map) b a (lowOf (get s r))) h
+  stb-good r a h = byte-good a (lowOf (get s r)) h
 
   ldb-good : (r : Register) → Stores Nothing → (a : ℕ) → Good (byteAt (m .map) b s r false a)
   unfolding byteAt
@@ -186,7 +196,7 @@ module _ (m : Machine) (b : Lent) (properties : Properties m) where
 
   copied-good : (to : ℕ) (x : Read) → StoresOf (copyTo to x) → Good (copied (m .map) b s to x)
   unfolding copied copyTo
-  copied-good to (Byte v p) h = storing-good (byteDecision (m .map) b to v) h
+  copied-good to (Byte v p) h = byte-good to v h
   copied-good to Unmapped h = (continues, fault-held, h)
 
   -- ---- all twelve, where the property holds of what the instruction stores
@@ -196,8 +206,8 @@ module _ (m : Machine) (b : Lent) (properties : Properties m) where
   act-good Noop h = (noop-answers (m .mode .debug), starts, h)
   act-good (Mov d o) h = (continues, one-put d (operand s o), h)
   act-good (MovShift d amount left imm) h = (continues, one-put d (moved (get s d) amount left imm), h)
-  act-good (Arith d o op) h = result-good d (kept (m .map) b s op (get s d) (operand s o)) (arithResult op (get s d) (operand s o)) (kept-stores d o op h)
-  act-good (ArithRegReg d x y op) h = result-good d Nothing (arithmeticResult op (get s x) (get s y)) h
+  act-good (Arith d o op) h = result-good d (kept (m .map) b s op (get s d) (operand s o)) (arithResult op (get s d) (operand s o)) (arith-numbered op (get s d) (operand s o)) (kept-stores d o op h)
+  act-good (ArithRegReg d x y op) h = result-good d Nothing (arithmeticResult op (get s x) (get s y)) (arithmetic-numbered op (get s x) (get s y)) h
   act-good (LdrStr r a true shift) h = addressed-good a shift (wordAt (m .map) b s r true) (λ n. oneWord n (get s r)) (str-good r) h
   act-good (LdrStr r a false shift) h = load-good a shift (wordAt (m .map) b s r false) (ldr-good r h)
   act-good (LdbStb r a true shift) h = addressed-good a shift (byteAt (m .map) b s r true) (λ n. oneByte n (lowOf (get s r))) (stb-good r) h
@@ -218,22 +228,22 @@ module _ (m : Machine) (b : Lent) (properties : Properties m) where
     where
       go : (r : Reached) → GoodPlan (raised s a t c r)
       go (At pc) = (g .0, puts t PC pc (g .1), g .2)
-      go Past = refl
+      go Past = (refl, omega Omega.arith, omega Omega.arith)
   finished-good (is (jump t)) g = (continues, g .0, g .1)
-  finished-good (no n) g = refl
+  finished-good (no n) g = (refl, g .0, g .1)
 
   -- where it holds of whatever can be stored
   module _ (all : (x : Storing) → StoresOf x) where
-    decoded-good : (x : Told Instruction) → GoodPlan (decoded m b x)
+    decoded-good : (x : Told Instruction) → Numbered 4 6 x → GoodPlan (decoded m b x)
     unfolding decoded refusal
-    decoded-good (is i) = finished-good (act m b i) (act-good i (all (storingOf m b i)))
-    decoded-good (no n) = refl
+    decoded-good (is i) k = finished-good (act m b i) (act-good i (all (storingOf m b i)))
+    decoded-good (no n) k = (refl, omega (Omega.arith, k .0), omega (Omega.arith, k .1))
 
-    fetched-good : (x : Told Reading) → GoodPlan (fetched m b x)
+    fetched-good : (x : Told Reading) → Numbered 3 3 x → GoodPlan (fetched m b x)
     unfolding fetched refusal
-    fetched-good (is (aWord w)) = decoded-good (decode w)
-    fetched-good (is noWord) = refl
-    fetched-good (no n) = refl
+    fetched-good (is (aWord w)) k = decoded-good (decode w) (decode-numbered w)
+    fetched-good (is noWord) k = (refl, omega Omega.arith, omega Omega.arith)
+    fetched-good (no n) k = (refl, omega (Omega.arith, k .0), omega (Omega.arith, k .1))
 
     pub plan-good : GoodPlan (plan m b)
     unfolding plan
@@ -241,7 +251,7 @@ module _ (m : Machine) (b : Lent) (properties : Properties m) where
       where
         go : (t : Bool) → (t ≡ true → Answered Stop) → GoodPlan (cond t (plans (is Stop) s Nothing) (fetched m b (readWord (m .map) b (get s PC))))
         go true h = (h refl, starts, all nothing)
-        go false h = fetched-good (readWord (m .map) b (get s PC))
+        go false h = fetched-good (readWord (m .map) b (get s PC)) (read-numbered (m .map) b (get s PC))
 
     -- accepted or refused
     pub plan-gives : Held (plan m b .registers) × Stores (plan m b .changes)
@@ -249,4 +259,4 @@ module _ (m : Machine) (b : Lent) (properties : Properties m) where
       where
         go : (x : Told Reply) → GoodAs (plan m b) x → Held (plan m b .registers) × Stores (plan m b .changes)
         go (is a) g = (g .1, g .2)
-        go (no n) e = rw e (starts, all nothing)
+        go (no n) e = rw (e .0) (starts, all nothing)

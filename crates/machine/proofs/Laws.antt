@@ -4,13 +4,14 @@ use mathlib.Core.Path.{_≡_, refl, sym, ap, _∙_}
 use mathlib.Core.Bool.{Bool, true, false}
 use mathlib.Core.List.{List}
 use Prim.Native.Nat.{ℕ, _+_, _≤_}
+use native.Mathlib.Omega.{arith}
 use lib.ListN.{length}
 use Rattle.base.specs.Choice.{cond}
 use Rattle.base.specs.Told.{Told, is, no}
 use Rattle.base.specs.Addresses.{raisedPc}
 use Rattle.base.specs.declared.addresses.Reached.the-variants.{At}
 use Rattle.base.proofs.AddressLaws.{reached-at}
-use Rattle.base.proofs.ToldLaws.{is-not-no}
+use Rattle.base.proofs.ToldLaws.{is-not-no, Numbered}
 use Rattle.instruction.specs.Decode.{decode}
 use Rattle.instruction.specs.declared.Register.the-variants.{PC}
 use Rattle.instruction.specs.declared.Instruction.the-variants.{Noop}
@@ -27,7 +28,7 @@ use Rattle.machine.specs.Plan.{Planned, plans, raised, finished, decoded
 use Rattle.machine.specs.Step.{After, after, committed, step}
 use Rattle.machine.specs.States.{valid, with}
 use Rattle.machine.specs.declared.Machine.{Machine}
-use Rattle.machine.proofs.PlanLaws.{plan-refused, plan-stops, plan-eight}
+use Rattle.machine.proofs.PlanLaws.{plan-refused, plan-numbered, plan-stops, plan-eight}
 use Rattle.machine.proofs.RegisterLaws.{get-own}
 
 -- validity looks at the tables, and at how many device bytes are lent
@@ -83,8 +84,6 @@ module _ (m : Machine) (b : Lent) where
       go false h e = is-not-no Stop 1 (sym e ∙ ap (λ (x : After). x .answer) (invalid-step h))
       go true h e = step-stops h (plan-stops m b (sym (answer-of h) ∙ e))
 
-  -- ---- what every step keeps
-
   -- what holds where the state is not valid, and after what was planned is made, holds after every step
   every-step : (P : After → Type 0) → P (after (no 1) m b) → P (committed m b (plan m b)) → P (step m b)
   every-step P x y = go (valid m (b .dev)) refl
@@ -92,6 +91,17 @@ module _ (m : Machine) (b : Lent) where
       go : (t : Bool) → valid m (b .dev) ≡ t → P (step m b)
       go false h = rw (invalid-step h) x
       go true h = rw (valid-step h) y
+
+  -- a refusal of a step has a number from 1 to 9
+  pub step-numbered : Numbered 1 9 (step m b .answer)
+  unfolding committed
+  step-numbered = every-step (λ (x : After). Numbered 1 9 (x .answer)) (omega arith, omega arith) (go (plan m b .answer) (plan-numbered m b))
+    where
+      go : (x : Told Reply) → Numbered 2 9 x → Numbered 1 9 x
+      go (is a) k = tt
+      go (no n) k = (omega (arith, k .0), k .1)
+
+  -- ---- what every step keeps
 
   pub step-lengths : SameLengths (step m b .bytes) b
   unfolding committed

@@ -1,4 +1,4 @@
--- What is known of every plan, by the cases of ActCases.antt: a refused one changes nothing, FLAGS bit 0 alone answers Stop, eight
+-- What is known of every plan, by the cases of ActCases.antt: a refused one has a number from 2 to 9 and changes nothing, FLAGS bit 0 alone answers Stop, eight
 -- registers stay eight, and each byte that is stored goes where memory sends it. Assumes nothing.
 use mathlib.Core.Path.{_≡_, refl, _∙_, subst}
 use mathlib.Core.Bool.{true}
@@ -6,6 +6,7 @@ use Prim.Native.Nat.{ℕ}
 use lib.ListN.{length}
 use Rattle.base.specs.Told.{Told, is, no}
 use Rattle.base.proofs.Tests.{clash}
+use Rattle.base.proofs.ToldLaws.{Numbered}
 use Rattle.memory.specs.Bytes.{Lent}
 use Rattle.memory.specs.declared.Changes.the-variants.{Nothing}
 use Rattle.memory.proofs.Decisions.{Sound, byte-sound, decision-sound}
@@ -46,7 +47,15 @@ module _ (m : Machine) (b : Lent) where
   answered-as x e = subst (GoodAs m b known (plan m b)) e (plan-good m b known sound)
 
   pub plan-refused : (n : ℕ) → plan m b .answer ≡ no n → plan m b ≡ plans (no n) (m .registers) Nothing
-  plan-refused n e = answered-as (no n) e
+  plan-refused n e = answered-as (no n) e .0
+
+  -- 2 to 9
+  pub plan-numbered : Numbered 2 9 (plan m b .answer)
+  plan-numbered = go (plan m b .answer) refl
+    where
+      go : (x : Told Reply) → plan m b .answer ≡ x → Numbered 2 9 x
+      go (is a) e = tt
+      go (no n) e = (answered-as (no n) e .1, answered-as (no n) e .2)
 
   pub plan-stops : plan m b .answer ≡ is Stop → flag (m .registers) 0 ≡ true
   plan-stops e = answered-as (is Stop) e .0 refl

@@ -15,6 +15,7 @@ module _ (m : Machine) (dev : List ℕ) where
   unfolding valid
   valid-tables = refl
 
+  -- a register that is set leaves the tables
   pub set-tables : (number value : ℕ) → setMachine m dev number value .map ≡ m .map
   unfolding setMachine withRegister
   set-tables number value = go (eqb (setNumber m dev number) 0)
@@ -22,3 +23,7 @@ module _ (m : Machine) (dev : List ℕ) where
       go : (t : Bool) → cond t (withRegister m number value) m .map ≡ m .map
       go true = refl
       go false = refl
+
+pub register-tables : (m : Machine) (number value : ℕ) → withRegister m number value .map ≡ m .map
+unfolding withRegister
+register-tables m number value = refl

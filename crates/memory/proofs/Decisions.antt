@@ -9,6 +9,7 @@ use Rattle.base.specs.Words.{lowOf, highOf}
 use Rattle.base.specs.declared.addresses.Reached.{Reached}
 use Rattle.base.specs.declared.addresses.Reached.the-variants.{At, Past}
 use Rattle.base.proofs.AddressLaws.{reached-is}
+use Rattle.base.proofs.ToldLaws.{Numbered}
 use Rattle.map.specs.declared.Map.{Map}
 use Rattle.map.specs.declared.Place.{Place}
 use Rattle.memory.specs.Bytes.{Lent, get, put, targetIn, readByte, takes, storeByte}
@@ -17,6 +18,7 @@ use Rattle.memory.specs.declared.Change.{Change}
 use Rattle.memory.specs.declared.Changes.{Changes}
 use Rattle.memory.specs.declared.Changes.the-variants.{Nothing, One, Two}
 use Rattle.memory.proofs.ByteLaws.{put-mem, put-dev}
+use Rattle.memory.proofs.WordLaws.{stored-numbered}
 use Rattle.memory.proofs.Laws.{SameLengths, same-lengths, then-lengths, target-lengths, store-lengths, takes-kept, read-target, stored-at, refused-store}
 
 pub nothing-made : (s : Lent) → made Nothing s ≡ s
@@ -64,6 +66,17 @@ module _ (m : Map) (s : Lent) (a : ℕ) where
       go : (t : Bool) → made (cond t (wordChanges m s a (secondAddress a) w) Nothing) s ≡ cond t (storeBoth m s a (secondAddress a) w) s
       go true = both-made (secondAddress a) w
       go false = nothing-made s
+
+-- ---- it is refused with 3 alone
+
+module _ (m : Map) (s : Lent) (a : ℕ) where
+  pub byte-numbered : (v : ℕ) → Numbered 3 3 (byteDecision m s a v .outcome)
+  unfolding byteDecision
+  byte-numbered v = tt
+
+  pub word-numbered : (w : ℕ) → Numbered 3 3 (wordDecision m s a w .outcome)
+  unfolding wordDecision
+  word-numbered w = stored-numbered m s a
 
 -- ---- each change stands at the place that a store to its address goes to, its address takes a store, and two have two addresses
 

@@ -4,9 +4,10 @@ use mathlib.Core.Bool.{Bool, true, false}
 use Prim.Native.Nat.{ℕ, _+_, _<_}
 use native.Mathlib.Omega.{arith}
 use lib.ListN.{length, getD}
-use Rattle.base.specs.Addresses.{secondAddress}
+use Rattle.base.specs.Addresses.{secondAddress, addressOr}
 use Rattle.base.specs.Choice.{cond}
-use Rattle.base.specs.Told.{Told, is, no}
+use Rattle.base.specs.Told.{Told, is, no, _>>=_}
+use Rattle.base.proofs.ToldLaws.{Numbered}
 use Rattle.base.specs.Words.{wordOf, lowOf, highOf}
 use Rattle.base.specs.declared.addresses.Reached.{Reached}
 use Rattle.base.specs.declared.addresses.Reached.the-variants.{At, Past}
@@ -17,7 +18,8 @@ use Rattle.map.specs.declared.Place.the-variants.{Linear}
 use Rattle.map.proofs.Laws.{linear-second, linear-low, linear-high, linear-below}
 use Rattle.memory.specs.Bytes.{Lent, placeIn, readByte, takes, storeByte}
 use Rattle.memory.specs.Words.{aWord, joined, readHigh, readWord, Ending, done, failed, byteStored, wordStored, storeBoth, storeWord}
-use Rattle.memory.specs.declared.Read.the-variants.{Byte}
+use Rattle.memory.specs.declared.Read.{Read}
+use Rattle.memory.specs.declared.Read.the-variants.{Byte, Unmapped}
 use Rattle.memory.proofs.Laws.{SameLengths, same-lengths, then-lengths, read-placed, store-lengths, takes-kept, refused-store, read-other, read-own}
 
 -- a word of two linear bytes is read there
@@ -88,3 +90,24 @@ read-word-own m s a b w h n k =
     let high : readByte m s₂ b ≡ Byte (highOf w) (placeIn m s₁ b) = read-own m s₁ b (highOf w) (takes-kept m s a (lowOf w) b ∙ k) in
     let sum : wordOf (lowOf w) (highOf w) ≡ w = omega arith in
     rw (e, low, n, high, sum)
+
+-- ---- a word is refused with 3 alone
+
+module _ (m : Map) (s : Lent) (a : ℕ) where
+  pub read-numbered : Numbered 3 3 (readWord m s a)
+  unfolding readWord readHigh
+  read-numbered = go (readByte m s a) (secondAddress a)
+    where
+      go : (x : Read) (r : Reached) → Numbered 3 3 (readHigh m s x r)
+      go Unmapped r = tt
+      go (Byte low p) (At b) = tt
+      go (Byte low p) Past = (omega arith, omega arith)
+
+  pub stored-numbered : Numbered 3 3 (wordStored m s a)
+  unfolding wordStored
+  stored-numbered = go (takes m s a) (secondAddress a)
+    where
+      go : (t : Bool) (r : Reached) → Numbered 3 3 (cond t (addressOr 3 r >>= λ b. is (byteStored m s b)) (is failed))
+      go true (At b) = tt
+      go true Past = (omega arith, omega arith)
+      go false r = tt

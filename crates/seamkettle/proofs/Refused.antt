@@ -10,16 +10,18 @@ use Rattle.memory.specs.Bytes.{Lent}
 use Rattle.journal.specs.States.{Whole, whole}
 use Rattle.journal.specs.declared.State.{State}
 use Rattle.journal.specs.Step.{isAccepted, step}
+use Rattle.journal.specs.Run.{run}
 use Rattle.journal.specs.Back.{stepBack, forgetNumber, forgotten}
 use Rattle.journal.proofs.StepLaws.{step-kept}
 use Rattle.journal.proofs.BackLaws.{back-kept, forget-refused}
+use Rattle.journal.proofs.RunLaws.{run-kept}
 use Rattle.host.specs.Host.{setNumber, setState, protectNumber, protectState, registerNumber, registerState, loadNumber, begins}
 use Rattle.host.proofs.Laws.{set-refused, protect-refused, register-refused, load-refused}
 use Rattle.base.proofs.Tests.{and-left}
 use Rattle.block.specs.Block.{isBlock, packed, unpacked}
 use Rattle.block.proofs.Laws.{pack-unpack}
-use Rattle.numbers.specs.Answers.{stepCode}
-use Rattle.seamkettle.specs.Calls.{Seen, seen, shown, stepping, steppingBack, even, loaded, loading, blockAfter}
+use Rattle.numbers.specs.Answers.{coded, stepCode}
+use Rattle.seamkettle.specs.Calls.{Seen, seen, shown, stepping, running, steppingBack, even, loaded, loading, blockAfter}
 
 module _ (block : List ℕ) (a : areBytes block ≡ true) where
   -- an entry that leaves the state leaves the block
@@ -63,6 +65,12 @@ module _ (block : List ℕ) (a : areBytes block ≡ true) where
         → stepping block b j ≡ seen (cond (isBlock block) (stepCode (step found .answer)) 31) block b j
     unfolding stepping
     step-refused h = kept (isBlock block) (λ i. i) (stepCode (step found .answer)) (step found .whole) (step-kept found h)
+
+    -- a run that counts no accepted step: it is refused at once, or at Stop, or of no steps
+    pub run-unbegun : (n : ℕ) → run n found .count ≡ 0
+        → running n block b j ≡ seen (cond (isBlock block) (coded (stepCode (run n found .answer)) 0) 31) block b j
+    unfolding running
+    run-unbegun n h = rw h (kept (isBlock block) (λ i. i) (coded (stepCode (run n found .answer)) 0) (run n found .whole) (run-kept n found h))
 
     pub back-refused : (stepBack found .number ≡ 0 → ⊥)
         → steppingBack block b j ≡ seen (cond (isBlock block) (stepBack found .number) 31) block b j

@@ -6,6 +6,7 @@ use borrow.Author.Tests.{not-true, not-false}
 use Rattle.base.specs.Numbers.{answerNumber}
 use Rattle.journal.specs.States.{valid}
 use Rattle.host.specs.Host.{settled, registerNumber, registerState}
+use Rattle.host.proofs.Below.{register-number, register-state}
 use borrow.Author.Needs.{needs}
 use Rattle.host.proofs.entries.register_device.Statement.{statement}
 use Rattle.host.proofs.entries.register_device.Tie as tie
@@ -34,14 +35,13 @@ settled-requires : tie.Need-settled-requires
 settled-requires c κs = search needs
 
 returns-2 : tie.Need-returns-2
-unfolding registerNumber registerState
 returns-2 c =
     let s = c .before .before .before .before .before .before .before .before .before .before .args in
     let v : valid (s .s) (now (s .dev)) (now (s .journal)) ≡ true =
     sym (c .before .before .before .before .before .before .before .valid .ensures) ∙ not-false _ (c .before .before .before .before .before .before .if1 .left) in
     let q = c .before .before .before .register-device .ensures in
     let r = c .settled .ensures in
-    (ap answerNumber (r .0) ∙ q .0 ∙ rw v, r .1 ∙ rw (c .before .with-map .ensures, q .0, q .1, v))
+    (ap answerNumber (r .0) ∙ q .0 ∙ register-number (s .s) (now (s .dev)) (now (s .journal)) v (s .start) (s .size), r .1 ∙ rw (c .before .with-map .ensures, q .0, q .1) (register-state (s .s) (now (s .dev)) (now (s .journal)) v (s .start) (s .size)))
 
 pub register-device-spec : {M : Type 1} → statement M
 register-device-spec =

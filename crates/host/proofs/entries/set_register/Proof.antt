@@ -6,6 +6,7 @@ use borrow.Author.Tests.{not-true, not-false}
 use Rattle.base.specs.Numbers.{answerNumber}
 use Rattle.journal.specs.States.{valid}
 use Rattle.host.specs.Host.{settled, setNumber, setState}
+use Rattle.host.proofs.Below.{set-number, set-state}
 use borrow.Author.Needs.{needs}
 use Rattle.host.proofs.entries.set_register.Statement.{statement}
 use Rattle.host.proofs.entries.set_register.Tie as tie
@@ -31,14 +32,13 @@ settled-requires : tie.Need-settled-requires
 settled-requires c κs = search needs
 
 returns-2 : tie.Need-returns-2
-unfolding setNumber setState
 returns-2 c =
     let s = c .before .before .before .before .before .before .before .before .args in
     let v : valid (s .s) (now (s .dev)) (now (s .journal)) ≡ true =
     sym (c .before .before .before .before .before .valid .ensures) ∙ not-false _ (c .before .before .before .before .if1 .left) in
     let q = c .before .before .set-register .ensures in
     let r = c .settled .ensures in
-    (ap answerNumber (r .0) ∙ q .0 ∙ rw v, r .1 ∙ rw (q .0, q .1, v))
+    (ap answerNumber (r .0) ∙ q .0 ∙ set-number (s .s) (now (s .dev)) (now (s .journal)) v (s .number), r .1 ∙ rw (q .0, q .1) (set-state (s .s) (now (s .dev)) (now (s .journal)) v (s .number) (s .value)))
 
 pub set-register-spec : {M : Type 1} → statement M
 set-register-spec =

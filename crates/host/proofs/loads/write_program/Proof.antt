@@ -7,7 +7,7 @@ use Rattle.memory.specs.Bytes.{lent}
 use Rattle.memory.specs.Program as memory
 use Rattle.journal.specs.States.{valid}
 use Rattle.host.specs.Host.{past, begins, loadNumber, loadState, loadBytes}
-use Rattle.host.proofs.AnswerLaws.{begins-past}
+use Rattle.host.proofs.Below.{load-number, load-map, load-bytes, begins-past}
 use borrow.Author.Needs.{needs}
 use Rattle.host.proofs.loads.write_program.Statement.{statement}
 use Rattle.host.proofs.loads.write_program.Tie as tie
@@ -42,7 +42,7 @@ same-length-3 : tie.Need-same-length-3
 same-length-3 c = search needs
 
 returns-2 : tie.Need-returns-2
-unfolding loadNumber loadState loadBytes
+unfolding loadState
 returns-2 c =
     let load = c .before .before .before .before .before .before in
     let s = load .before .before .before .before .before .before .before .before .before .before .before .before .args in
@@ -52,8 +52,10 @@ returns-2 c =
     let q = load .write-program .ensures in
     let p : past (memory.loadNumber (s .s .machine .map) bytes (now (s .words))) ≡ false =
     ap past (sym (q .0)) ∙ sym (c .before .is-past .ensures) ∙ not-true _ (c .if2 .taken) in
-    let g = begins-past (s .s) bytes (now (s .journal)) (now (s .words)) v ∙ p in
-    (q .0 ∙ rw v, (rw g, q .1 .1 ∙ rw v))
+    let g = begins-past (s .s) bytes (now (s .journal)) v (now (s .words)) ∙ p in
+    let n = q .0 ∙ load-number (s .s) bytes (now (s .journal)) v (now (s .words)) in
+    let l = q .1 .1 ∙ load-bytes (s .s) bytes (now (s .journal)) v (now (s .words)) in
+    (n, (rw g, l))
 
 with-map-requires : tie.Need-with-map-requires
 with-map-requires c κs = search needs
@@ -68,7 +70,7 @@ same-length-5 : tie.Need-same-length-5
 same-length-5 c = search needs
 
 returns-3 : tie.Need-returns-3
-unfolding loadNumber loadState loadBytes
+unfolding loadState
 returns-3 c =
     let load = c .before .before .before .before .before .before .before .before .before in
     let s = load .before .before .before .before .before .before .before .before .before .before .before .before .args in
@@ -78,8 +80,10 @@ returns-3 c =
     let q = load .write-program .ensures in
     let p : past (memory.loadNumber (s .s .machine .map) bytes (now (s .words))) ≡ true =
     ap past (sym (q .0)) ∙ sym (c .before .before .before .before .is-past .ensures) ∙ not-false _ (c .before .before .before .if2 .left) in
-    let g = begins-past (s .s) bytes (now (s .journal)) (now (s .words)) v ∙ p in
-    (q .0 ∙ rw v, (c .emptied .ensures ∙ rw (c .before .with-map .ensures, q .1 .0, g), q .1 .1 ∙ rw v))
+    let g = begins-past (s .s) bytes (now (s .journal)) v (now (s .words)) ∙ p in
+    let n = q .0 ∙ load-number (s .s) bytes (now (s .journal)) v (now (s .words)) in
+    let l = q .1 .1 ∙ load-bytes (s .s) bytes (now (s .journal)) v (now (s .words)) in
+    (n, (c .emptied .ensures ∙ rw (c .before .with-map .ensures, q .1 .0 ∙ load-map (s .s) bytes (now (s .journal)) v (now (s .words)), g), l))
 
 pub write-program-spec : {M : Type 1} → statement M
 write-program-spec =

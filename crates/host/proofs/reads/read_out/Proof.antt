@@ -4,7 +4,11 @@ use mathlib.Core.Bool.{true, false}
 use denote.Ref.{now}
 use borrow.Author.Tests.{not-true, not-false}
 use Rattle.journal.specs.States.{valid}
-use Rattle.host.specs.Host.{readOut, readOutBuffer}
+use lib.ListN.{length}
+use Rattle.memory.specs.Bytes.{lent}
+use Rattle.memory.specs.Blocks.{counting, copying}
+use Rattle.host.specs.Host.{readNumber, readOut, readOutBuffer}
+use Rattle.host.proofs.Below.{read-out, read-buffer}
 use borrow.Author.Needs.{needs}
 use Rattle.host.proofs.reads.read_out.Statement.{statement}
 use Rattle.host.proofs.reads.read_out.Tie as tie
@@ -13,7 +17,7 @@ valid-requires : tie.Need-valid-requires
 valid-requires c κs = search needs
 
 returns : tie.Need-returns
-unfolding readOut readOutBuffer
+unfolding readNumber readOut readOutBuffer counting copying
 returns c =
     let s = c .before .before .before .before .before .before .args in
     let v : valid (s .s) (now (s .dev)) (now (s .journal)) ≡ false =
@@ -27,13 +31,13 @@ same-length : tie.Need-same-length
 same-length c = search needs
 
 returns-2 : tie.Need-returns-2
-unfolding readOut readOutBuffer
 returns-2 c =
     let s = c .before .before .before .before .before .before .before .before .before .before .before .before .args in
     let v : valid (s .s) (now (s .dev)) (now (s .journal)) ≡ true =
     sym (c .before .before .before .before .before .before .before .valid .ensures) ∙ not-false _ (c .before .before .before .before .before .before .if1 .left) in
     let q = c .before .before .read-out .ensures in
-    (q .0 ∙ rw v, q .1 ∙ rw v)
+    let bytes = lent (now (s .mem)) (now (s .dev)) in
+    (q .0 ∙ read-out (s .s) bytes (now (s .journal)) v (s .start) (s .size) (length (now (s .buffer))), q .1 ∙ read-buffer (s .s) bytes (now (s .journal)) v (s .start) (s .size) (now (s .buffer)))
 
 pub read-out-spec : {M : Type 1} → statement M
 read-out-spec = tie.close (tie.spec valid-requires returns read-out-requires same-length returns-2)
