@@ -170,7 +170,7 @@ patch-most : (strict : Bool) (text name : List ℕ) (a : ℕ) (waiting : List Op
 unfolding patch
 patch-most strict text name a [] words = (refl, omega arith)
 patch-most strict text name a (o ∷ waiting) words =
-    go (names text (o .place) (o .length) name) (λ w. patch-most strict text name a waiting (set words (o .word) w))
+    go (names text (o .place) (o .length) name) (λ w. patch-most strict text name a waiting (set words (o .word .0) w))
     (patch-most strict text name a waiting words)
   where
     weaker : (words' : List ℕ) → length words' ≡ length words → (x : Told Patched) →
@@ -178,14 +178,14 @@ patch-most strict text name a (o ∷ waiting) words =
     weaker words' e (is p) h = (h .0 ∙ e, omega (arith, h .1))
     weaker words' e (no n) h = tt
 
-    go : (t : Bool) → ((w : ℕ) → Each (Less waiting (set words (o .word) w)) (patch strict text name a waiting (set words (o .word) w))) →
+    go : (t : Bool) → ((w : ℕ) → Each (Less waiting (set words (o .word .0) w)) (patch strict text name a waiting (set words (o .word .0) w))) →
         Each (Less waiting words) (patch strict text name a waiting words) →
         Each (Less (o ∷ waiting) words) (cond t
-        (_>>=_ (wordOf strict (resolved (o .reference) a)) (λ w. patch strict text name a waiting (set words (o .word) w)))
+        (_>>=_ (wordOf strict (resolved (o .reference) a)) (λ w. patch strict text name a waiting (set words (o .word .0) w)))
         (_>>=_ (patch strict text name a waiting words) (λ p. is (keep o p))))
     go true ih1 ih2 =
-        each-any (Less (o ∷ waiting) words) (wordOf strict (resolved (o .reference) a)) (λ w. patch strict text name a waiting (set words (o .word) w))
-        (λ w. weaker (set words (o .word) w) (length-set words (o .word) w) (patch strict text name a waiting (set words (o .word) w)) (ih1 w))
+        each-any (Less (o ∷ waiting) words) (wordOf strict (resolved (o .reference) a)) (λ w. patch strict text name a waiting (set words (o .word .0) w))
+        (λ w. weaker (set words (o .word .0) w) (length-set words (o .word .0) w) (patch strict text name a waiting (set words (o .word .0) w)) (ih1 w))
     go false ih1 ih2 =
         each-then (Less waiting words) (Less (o ∷ waiting) words) (patch strict text name a waiting words) (λ p. is (keep o p)) ih2
         (λ p h. (h .0, omega (arith, h .1)))

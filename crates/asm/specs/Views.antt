@@ -130,7 +130,7 @@ put (no n) i words = words
 abbrev pub patchThis : Bool → List ℕ → List ℕ → ℕ → Open → ℕ → List ℕ → List Open → Told Kept
 patchThis strict text name address o kept words waiting =
     cond (names text (o .place) (o .length) name)
-    (wordOf strict (resolved (o .reference) address) >>= λ w. is (keptOf kept (set words (o .word) w) waiting))
+    (wordOf strict (resolved (o .reference) address) >>= λ w. is (keptOf kept (set words (o .word .0) w) waiting))
     (is (keptOf (kept + 1) words (set waiting kept o)))
 
 unfoldable pub patchOne : Bool → List ℕ → List ℕ → ℕ → ℕ → ℕ → List ℕ → List Open → Told Kept
