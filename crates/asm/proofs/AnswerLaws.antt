@@ -6,7 +6,7 @@ use Rattle.base.specs.Numbers.{numberOf}
 use Rattle.base.proofs.Laws.{number-one}
 use Rattle.base.specs.Told.{is}
 use Rattle.base.proofs.ToldLaws.{is-one, is-not-no, no-one}
-use Rattle.asm.specs.Assemble.{counts, refusal, answered}
+use Rattle.asm.specs.Assemble.{counts, refusal, reported}
 use Rattle.asm.specs.Reading.{Item, skip, label, says, refers, toldItem}
 use Rattle.asm.specs.declared.Assembled.{Assembled}
 use Rattle.asm.specs.declared.Assembled.the-variants.{Accepted, Refused}
@@ -22,7 +22,7 @@ refusal-lines n k line at e = cc
 counts-no-refusal : {B : Type 0} (words labels waiting n line : ℕ) → counts words labels waiting ≡ refusal n line → B
 counts-no-refusal words labels waiting n line e = absurd (let z : _≡_ {A = ℕ} 0 1 = cc in omega arith)
 
-pub assembled-one : (a b : Assembled) → answered a ≡ answered b → a ≡ b
+pub assembled-one : (a b : Assembled) → reported a ≡ reported b → a ≡ b
 assembled-one (Accepted w l o) (Accepted v m p) e = cc
 assembled-one (Accepted w l o) (Refused r line) e = counts-no-refusal w l o (numberOf r) line e
 assembled-one (Refused r line) (Accepted w l o) e = counts-no-refusal w l o (numberOf r) line (sym e)

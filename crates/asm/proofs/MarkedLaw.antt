@@ -15,5 +15,5 @@ use Rattle.asm.specs.Work.{says, opens, references, labelled, turn}
 use Rattle.asm.specs.Assemble.{assemble}
 
 pub all-marked : map (λ (r : Row). assembled (r .text)) marked ≡ map (λ (r : Row). r .words) marked
-unfolding digitOf immediate isBlank rows upper kindOf Operands.register Operands.operand Operands.registerAndOperand Operands.threeRegisters Operands.bracketed Operands.address Parse.takes Parse.mov Parse.arithRegReg Parse.transfer Parse.target Parse.meaning Parse.parse names findFrom find define addOpen patch read wordOf addWord addInstruction says opens references labelled turn assemble
+unfolding digitOf immediate isBlank rows upper kindOf Operands.registerNames Operands.register Operands.operand Operands.registerAndOperand Operands.threeRegisters Operands.bracketed Operands.address Parse.takes Parse.mov Parse.arithRegReg Parse.transfer Parse.target Parse.meaning Parse.parse names findFrom find define addOpen patch read wordOf addWord addInstruction says opens references labelled turn assemble
 all-marked = refl

@@ -20,7 +20,7 @@ use Rattle.labels.specs.Opens.{noOpen}
 use Rattle.asm.specs.Words.{wordOf}
 use Rattle.asm.specs.Labels.{part, Patched, patchedOf}
 use Rattle.asm.specs.Work.{Work, work}
-use Rattle.asm.specs.Assemble.{Outcome, accepted, refused, report, answered, wordsOf, labelsLeft}
+use Rattle.asm.specs.Assemble.{Outcome, accepted, refused, report, reported, wordsOf, labelsLeft}
 use Rattle.asm.specs.declared.Assembled.{Assembled}
 use Rattle.asm.specs.declared.Assembled.the-variants as Assembled
 use Rattle.asm.specs.declared.words.Added.{Added}
@@ -194,6 +194,6 @@ ended (Assembled.Refused r line) words labels waiting = refused (numberOf r) lin
 
 -- the answer's counts and the arrays' first words and labels are those of an outcome
 pub record EndedWith (a : Assembled) (words : List ℕ) (labels : List Label) (o : Outcome) : Type 0 where
-  pub answer : answered a ≡ report o
+  pub answer : reported a ≡ report o
   pub words-end : take (wordCount a) words ≡ wordsOf o
   pub labels-end : take (labelCount a) labels ≡ labelsLeft o
