@@ -9,7 +9,7 @@ use Rattle.base.specs.Told.{Told, is, no, _>>=_}
 use Rattle.asm.specs.Reading.{Item, skip, label, says, refers, read}
 use Rattle.asm.specs.Work.{Task, Work, references, labelled, does, turn}
 use Rattle.asm.specs.Work as Work
-use Rattle.asm.specs.Assemble.{Outcome, accepted, refused, onward, assembleFrom}
+use Rattle.asm.specs.Assemble.{Outcome, accepted, refused, nextLine, assembleFrom}
 use Rattle.asm.specs.Meaning.{placed, itemsFrom}
 
 -- what an item does
@@ -31,17 +31,17 @@ refused-not n line w e = absurd (let z : _≡_ {A = ℕ} 0 1 = cc in omega arith
 
 module _ (t : Task) (v : Work) where
   -- what is accepted went on
-  onward-on : (line : ℕ) (x : Told Work) (next : Work → Outcome) (f : Work → Told Work) → ((w : Work) → next w ≡ accepted v → f w ≡ is v) →
-      onward line x next ≡ accepted v → _>>=_ x f ≡ is v
-  onward-on line (is w) next f k e = k w e
-  onward-on line (no n) next f k e = refused-not n line v e
+  next-line-on : (line : ℕ) (x : Told Work) (next : Work → Outcome) (f : Work → Told Work) → ((w : Work) → next w ≡ accepted v → f w ≡ is v) →
+      nextLine line x next ≡ accepted v → _>>=_ x f ≡ is v
+  next-line-on line (is w) next f k e = k w e
+  next-line-on line (no n) next f k e = refused-not n line v e
 
   item-on : (at line : ℕ) (w : Work) (r : Told Item) (next : Work → Outcome) (f : Work → Told Work) → ((u : Work) → next u ≡ accepted v → f u ≡ is v) →
-      onward line (_>>=_ r (does t at w)) next ≡ accepted v → _>>=_ (acts t w (placed at r)) f ≡ is v
+      nextLine line (_>>=_ r (does t at w)) next ≡ accepted v → _>>=_ (acts t w (placed at r)) f ≡ is v
   item-on at line w (is skip) next f k e = k w e
-  item-on at line w (is (label start size)) next f k e = onward-on line (labelled t (at + start) size w) next f k e
-  item-on at line w (is (says i)) next f k e = onward-on line (Work.says t i w) next f k e
-  item-on at line w (is (refers r start size)) next f k e = onward-on line (references t r (at + start) size w) next f k e
+  item-on at line w (is (label start size)) next f k e = next-line-on line (labelled t (at + start) size w) next f k e
+  item-on at line w (is (says i)) next f k e = next-line-on line (Work.says t i w) next f k e
+  item-on at line w (is (refers r start size)) next f k e = next-line-on line (references t r (at + start) size w) next f k e
   item-on at line w (no n) next f k e = refused-not n line v e
 
   pub followed : (ls : List (List ℕ)) (at line : ℕ) (w : Work) → assembleFrom t ls at line w ≡ accepted v → follow t (itemsFrom at ls) w ≡ is v

@@ -17,3 +17,4 @@ pub mod Meanings
 pub mod Decoding
 pub mod Sound
 pub mod Rooms
+pub mod MarkedLaw

@@ -26,9 +26,9 @@ use Rattle.labels.specs.declared.Open.{Open}
 use Rattle.asm.specs.declared.patching.Left.{Left}
 use Rattle.asm.specs.declared.patching.Left.the-variants as Left
 
-pub opens-stored : (ps ls ws rs ps' ls' ws' rs' : List ℕ) (i : ℕ) (o : Open) → ps' ≡ set ps i (o .place) → ls' ≡ set ls i (o .length) → ws' ≡ set ws i (o .word) →
+pub opens-stored : (ps ls ws rs ps' ls' ws' rs' : List ℕ) (i : ℕ) (o : Open) → ps' ≡ set ps i (o .place) → ls' ≡ set ls i (o .length) → ws' ≡ set ws i (o .word .0) →
     rs' ≡ set rs i (referenceCode (o .reference)) → opensOf ps' ls' ws' rs' ≡ set (opensOf ps ls ws rs) i o
-opens-stored ps ls ws rs ps' ls' ws' rs' i o p q r s = rw (p, q, r, s) (opens-set ps ls ws rs i (o .place) (o .length) (o .word) (o .reference))
+opens-stored ps ls ws rs ps' ls' ws' rs' i o p q r s = rw (p, q, r, s) (opens-set ps ls ws rs i (o .place) (o .length) (o .word .0) (o .reference))
 
 -- arrays of one length have as many entries
 pub opens-same : (ps ls ws rs ps' ls' ws' rs' : List ℕ) → length ps' ≡ length ps → length ls' ≡ length ls → length ws' ≡ length ws → length rs' ≡ length rs →
@@ -86,17 +86,17 @@ module _ (strict : Bool) (text name : List ℕ) (address : ℕ) where
     one o = go (names text (o .place) (o .length) name)
       where
         settled : (x : Told ℕ) →
-            prepend (take kept waiting) (_>>=_ x (λ w. patch strict text name address (take (m - (i + 1)) (drop (i + 1) waiting)) (set words (o .word) w)))
-            ≡ _>>=_ (_>>=_ x (λ w. is (keptOf kept (set words (o .word) w) waiting))) (λ s. left-to-patch m (i + 1) (s .count) (s .waiting) (s .words))
+            prepend (take kept waiting) (_>>=_ x (λ w. patch strict text name address (take (m - (i + 1)) (drop (i + 1) waiting)) (set words (o .word .0) w)))
+            ≡ _>>=_ (_>>=_ x (λ w. is (keptOf kept (set words (o .word .0) w) waiting))) (λ s. left-to-patch m (i + 1) (s .count) (s .waiting) (s .words))
         settled (is w) = refl
         settled (no n) = refl
 
         go : (t : Bool) →
             prepend (take kept waiting) (cond t
-            (_>>=_ (wordOf strict (resolved (o .reference) address)) (λ w. patch strict text name address (take (m - (i + 1)) (drop (i + 1) waiting)) (set words (o .word) w)))
+            (_>>=_ (wordOf strict (resolved (o .reference) address)) (λ w. patch strict text name address (take (m - (i + 1)) (drop (i + 1) waiting)) (set words (o .word .0) w)))
             (_>>=_ (patch strict text name address (take (m - (i + 1)) (drop (i + 1) waiting)) words) (λ p. is (keep o p))))
             ≡ _>>=_ (cond t
-            (_>>=_ (wordOf strict (resolved (o .reference) address)) (λ w. is (keptOf kept (set words (o .word) w) waiting)))
+            (_>>=_ (wordOf strict (resolved (o .reference) address)) (λ w. is (keptOf kept (set words (o .word .0) w) waiting)))
             (is (keptOf (kept + 1) words (set waiting kept o)))) (λ s. left-to-patch m (i + 1) (s .count) (s .waiting) (s .words))
         go true = settled (wordOf strict (resolved (o .reference) address))
         go false = kept-one o (take (m - (i + 1)) (drop (i + 1) waiting)) ∙
@@ -121,12 +121,12 @@ module _ (strict : Bool) (text name : List ℕ) (address : ℕ) where
         o : Open
         o = getD waiting i noOpen
 
-        settled : (x : Told ℕ) → is s ≡ _>>=_ x (λ w. is (keptOf kept (set words (o .word) w) waiting)) → s .count ≤ i + 1
-        settled (is w) q = omega (arith, ap (λ (y : Kept). y .count) (is-one s (keptOf kept (set words (o .word) w) waiting) q))
+        settled : (x : Told ℕ) → is s ≡ _>>=_ x (λ w. is (keptOf kept (set words (o .word .0) w) waiting)) → s .count ≤ i + 1
+        settled (is w) q = omega (arith, ap (λ (y : Kept). y .count) (is-one s (keptOf kept (set words (o .word .0) w) waiting) q))
         settled (no n) q = is-not-no s n q
 
         go : (t : Bool) → is s ≡ cond t
-            (_>>=_ (wordOf strict (resolved (o .reference) address)) (λ w. is (keptOf kept (set words (o .word) w) waiting)))
+            (_>>=_ (wordOf strict (resolved (o .reference) address)) (λ w. is (keptOf kept (set words (o .word .0) w) waiting)))
             (is (keptOf (kept + 1) words (set waiting kept o))) → s .count ≤ i + 1
         go true q = settled (wordOf strict (resolved (o .reference) address)) q
         go false q = omega (arith, ap (λ (y : Kept). y .count) (is-one s (keptOf (kept + 1) words (set waiting kept o)) q))
@@ -145,13 +145,13 @@ module _ (strict : Bool) (text name : List ℕ) (address : ℕ) where
       patch strict text name address waiting (take n words) ≡ _>>=_ (patch strict text name address waiting words) (λ p. is (patchedOf (take n (p .words)) (p .waiting)))
   unfolding patch
   patch-take n [] words = refl
-  patch-take n (o ∷ waiting) words = go (names text (o .place) (o .length) name) (λ w. patch-take n waiting (set words (o .word) w)) (patch-take n waiting words)
+  patch-take n (o ∷ waiting) words = go (names text (o .place) (o .length) name) (λ w. patch-take n waiting (set words (o .word .0) w)) (patch-take n waiting words)
     where
       settled : (x : Told ℕ) →
-          ((w : ℕ) → patch strict text name address waiting (take n (set words (o .word) w)) ≡ _>>=_ (patch strict text name address waiting (set words (o .word) w)) (λ p. is (patchedOf (take n (p .words)) (p .waiting)))) →
-          _>>=_ x (λ w. patch strict text name address waiting (set (take n words) (o .word) w))
-          ≡ _>>=_ (_>>=_ x (λ w. patch strict text name address waiting (set words (o .word) w))) (λ p. is (patchedOf (take n (p .words)) (p .waiting)))
-      settled (is w) ih = ap (λ (ws : List ℕ). patch strict text name address waiting ws) (sym (take-set n words (o .word) w)) ∙ ih w
+          ((w : ℕ) → patch strict text name address waiting (take n (set words (o .word .0) w)) ≡ _>>=_ (patch strict text name address waiting (set words (o .word .0) w)) (λ p. is (patchedOf (take n (p .words)) (p .waiting)))) →
+          _>>=_ x (λ w. patch strict text name address waiting (set (take n words) (o .word .0) w))
+          ≡ _>>=_ (_>>=_ x (λ w. patch strict text name address waiting (set words (o .word .0) w))) (λ p. is (patchedOf (take n (p .words)) (p .waiting)))
+      settled (is w) ih = ap (λ (ws : List ℕ). patch strict text name address waiting ws) (sym (take-set n words (o .word .0) w)) ∙ ih w
       settled (no k) ih = refl
 
       kept : (x y : Told Patched) → x ≡ _>>=_ y (λ p. is (patchedOf (take n (p .words)) (p .waiting))) →
@@ -160,11 +160,11 @@ module _ (strict : Bool) (text name : List ℕ) (address : ℕ) where
       kept x (no k) e = rw e
 
       go : (t : Bool) →
-          ((w : ℕ) → patch strict text name address waiting (take n (set words (o .word) w)) ≡ _>>=_ (patch strict text name address waiting (set words (o .word) w)) (λ p. is (patchedOf (take n (p .words)) (p .waiting)))) →
+          ((w : ℕ) → patch strict text name address waiting (take n (set words (o .word .0) w)) ≡ _>>=_ (patch strict text name address waiting (set words (o .word .0) w)) (λ p. is (patchedOf (take n (p .words)) (p .waiting)))) →
           patch strict text name address waiting (take n words) ≡ _>>=_ (patch strict text name address waiting words) (λ p. is (patchedOf (take n (p .words)) (p .waiting))) →
-          cond t (_>>=_ (wordOf strict (resolved (o .reference) address)) (λ w. patch strict text name address waiting (set (take n words) (o .word) w)))
+          cond t (_>>=_ (wordOf strict (resolved (o .reference) address)) (λ w. patch strict text name address waiting (set (take n words) (o .word .0) w)))
           (_>>=_ (patch strict text name address waiting (take n words)) (λ p. is (keep o p)))
-          ≡ _>>=_ (cond t (_>>=_ (wordOf strict (resolved (o .reference) address)) (λ w. patch strict text name address waiting (set words (o .word) w)))
+          ≡ _>>=_ (cond t (_>>=_ (wordOf strict (resolved (o .reference) address)) (λ w. patch strict text name address waiting (set words (o .word .0) w)))
           (_>>=_ (patch strict text name address waiting words) (λ p. is (keep o p)))) (λ p. is (patchedOf (take n (p .words)) (p .waiting)))
       go true ih1 ih2 = settled (wordOf strict (resolved (o .reference) address)) ih1
       go false ih1 ih2 = kept (patch strict text name address waiting (take n words)) (patch strict text name address waiting words) ih2
@@ -178,13 +178,13 @@ module _ (strict : Bool) (text name : List ℕ) (address : ℕ) where
 
   module _ (kept : ℕ) (words : List ℕ) where
     pub patch-hit : (words' : List ℕ) (waiting : List Open) (o : Open) (l : Left) → names text (o .place) (o .length) name ≡ true →
-        left l ≡ _>>=_ (wordOf strict (resolved (o .reference) address)) (λ w. is kept) → words' ≡ put (wordOf strict (resolved (o .reference) address)) (o .word) words →
+        left l ≡ _>>=_ (wordOf strict (resolved (o .reference) address)) (λ w. is kept) → words' ≡ put (wordOf strict (resolved (o .reference) address)) (o .word .0) words →
         stepped l words' waiting ≡ patchThis strict text name address o kept words waiting
     patch-hit words' waiting o l t e q = rw (t, q) (go l (wordOf strict (resolved (o .reference) address)) e)
       where
         go : (l : Left) (x : Told ℕ) → left l ≡ _>>=_ x (λ w. is kept) →
-            stepped l (put x (o .word) words) waiting ≡ _>>=_ x (λ w. is (keptOf kept (set words (o .word) w) waiting))
-        go (Left.Count n) (is w) e = ap (λ (k : ℕ). is (keptOf k (set words (o .word) w) waiting)) (is-one n kept e)
+            stepped l (put x (o .word .0) words) waiting ≡ _>>=_ x (λ w. is (keptOf kept (set words (o .word .0) w) waiting))
+        go (Left.Count n) (is w) e = ap (λ (k : ℕ). is (keptOf k (set words (o .word .0) w) waiting)) (is-one n kept e)
         go (Left.Count n) (no k) e = is-not-no n k e
         go (Left.Refused r) (is w) e = is-not-no kept (numberOf r) (sym e)
         go (Left.Refused r) (no k) e = ap (λ (n : ℕ). no n) (no-one (numberOf r) k e)

@@ -28,7 +28,7 @@ use Rattle.asm.specs.Labels.{part, entered, define, addOpen, Patched, ke
 use Rattle.asm.specs.Reading.{Item, read}
 use Rattle.asm.specs.Reading as Reading
 use Rattle.asm.specs.Work.{Task, task, Work, work, nothing, withWords, says, opens, refersTo, references, labelsAt, labelled, turn}
-use Rattle.asm.specs.Assemble.{Outcome, accepted, refused, onward, assembleFrom, assemble, outcome, counts, report}
+use Rattle.asm.specs.Assemble.{Outcome, accepted, refused, nextLine, assembleFrom, assemble, outcome, counts, report}
 
 -- ---- room over 32,767 words
 
@@ -53,10 +53,10 @@ instruction-room strict room i words = go (wordOf strict i)
     go (is w) = word-room room w words
     go (no n) = refl
 
-onward-same : (line : ℕ) (x y : Told Work) (f g : Work → Outcome) → x ≡ y → ((w : Work) → f w ≡ g w) → onward line x f ≡ onward line y g
-onward-same line x y f g e k = ap (λ (z : Told Work). onward line z f) e ∙ go y
+next-line-same : (line : ℕ) (x y : Told Work) (f g : Work → Outcome) → x ≡ y → ((w : Work) → f w ≡ g w) → nextLine line x f ≡ nextLine line y g
+next-line-same line x y f g e k = ap (λ (z : Told Work). nextLine line z f) e ∙ go y
   where
-    go : (z : Told Work) → onward line z f ≡ onward line z g
+    go : (z : Told Work) → nextLine line z f ≡ nextLine line z g
     go (is w) = k w
     go (no n) = refl
 
@@ -100,7 +100,7 @@ module _ (strict : Bool) (text : List ℕ) (room labels : ℕ) where
   lines-room : (ls : List (List ℕ)) (at line : ℕ) (w : Work) → assembleFrom given ls at line w ≡ assembleFrom least ls at line w
   lines-room [] at line w = refl
   lines-room (l ∷ ls) at line w =
-      onward-same (line + 1) (turn given at (read l) w) (turn least at (read l) w)
+      next-line-same (line + 1) (turn given at (read l) w) (turn least at (read l) w)
       (assembleFrom given ls (at + length l + 1) (line + 1)) (assembleFrom least ls (at + length l + 1) (line + 1))
       (turn-room at (read l) w) (lines-room ls (at + length l + 1) (line + 1))
 
@@ -170,7 +170,7 @@ patch-most : (strict : Bool) (text name : List ℕ) (a : ℕ) (waiting : List Op
 unfolding patch
 patch-most strict text name a [] words = (refl, omega arith)
 patch-most strict text name a (o ∷ waiting) words =
-    go (names text (o .place) (o .length) name) (λ w. patch-most strict text name a waiting (set words (o .word) w))
+    go (names text (o .place) (o .length) name) (λ w. patch-most strict text name a waiting (set words (o .word .0) w))
     (patch-most strict text name a waiting words)
   where
     weaker : (words' : List ℕ) → length words' ≡ length words → (x : Told Patched) →
@@ -178,14 +178,14 @@ patch-most strict text name a (o ∷ waiting) words =
     weaker words' e (is p) h = (h .0 ∙ e, omega (arith, h .1))
     weaker words' e (no n) h = tt
 
-    go : (t : Bool) → ((w : ℕ) → Each (Less waiting (set words (o .word) w)) (patch strict text name a waiting (set words (o .word) w))) →
+    go : (t : Bool) → ((w : ℕ) → Each (Less waiting (set words (o .word .0) w)) (patch strict text name a waiting (set words (o .word .0) w))) →
         Each (Less waiting words) (patch strict text name a waiting words) →
         Each (Less (o ∷ waiting) words) (cond t
-        (_>>=_ (wordOf strict (resolved (o .reference) a)) (λ w. patch strict text name a waiting (set words (o .word) w)))
+        (_>>=_ (wordOf strict (resolved (o .reference) a)) (λ w. patch strict text name a waiting (set words (o .word .0) w)))
         (_>>=_ (patch strict text name a waiting words) (λ p. is (keep o p))))
     go true ih1 ih2 =
-        each-any (Less (o ∷ waiting) words) (wordOf strict (resolved (o .reference) a)) (λ w. patch strict text name a waiting (set words (o .word) w))
-        (λ w. weaker (set words (o .word) w) (length-set words (o .word) w) (patch strict text name a waiting (set words (o .word) w)) (ih1 w))
+        each-any (Less (o ∷ waiting) words) (wordOf strict (resolved (o .reference) a)) (λ w. patch strict text name a waiting (set words (o .word .0) w))
+        (λ w. weaker (set words (o .word .0) w) (length-set words (o .word .0) w) (patch strict text name a waiting (set words (o .word .0) w)) (ih1 w))
     go false ih1 ih2 =
         each-then (Less waiting words) (Less (o ∷ waiting) words) (patch strict text name a waiting words) (λ p. is (keep o p)) ih2
         (λ p h. (h .0, omega (arith, h .1)))
@@ -246,15 +246,15 @@ module _ (t : Task) where
   Ends (accepted w) = Within w
   Ends (refused n line) = Unit {0}
 
-  onward-within : (line : ℕ) (x : Told Work) (next : Work → Outcome) → Each Within x → ((w : Work) → Within w → Ends (next w)) →
-      Ends (onward line x next)
-  onward-within line (is w) next h k = k w h
-  onward-within line (no n) next h k = tt
+  next-line-within : (line : ℕ) (x : Told Work) (next : Work → Outcome) → Each Within x → ((w : Work) → Within w → Ends (next w)) →
+      Ends (nextLine line x next)
+  next-line-within line (is w) next h k = k w h
+  next-line-within line (no n) next h k = tt
 
   lines-within : (ls : List (List ℕ)) (at line : ℕ) (w : Work) → Within w → Ends (assembleFrom t ls at line w)
   lines-within [] at line w h = h
   lines-within (l ∷ ls) at line w h =
-      onward-within (line + 1) (turn t at (read l) w) (assembleFrom t ls (at + length l + 1) (line + 1)) (turn-within at (read l) w h)
+      next-line-within (line + 1) (turn t at (read l) w) (assembleFrom t ls (at + length l + 1) (line + 1)) (turn-within at (read l) w h)
       (lines-within ls (at + length l + 1) (line + 1))
 
   assemble-within : Ends (assemble t)

@@ -1,5 +1,5 @@
 -- Assembling is sound: an accepted text's words, open references and labels are those of what the text means
--- (specs/Meaning.antt); and in strict assembly each word decodes to the very instruction that its line says. Assumes nothing.
+-- (specs/Meaning.antt); and in strict assembly each word decodes to the very instruction that its line says, a CJP to a register apart. Assumes nothing.
 use Prim.Native.Nat.{ℕ}
 use mathlib.Core.Path.{_≡_, sym, ap, subst, _∙_}
 use mathlib.Core.Bool.{Bool, true}

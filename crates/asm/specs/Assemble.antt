@@ -19,15 +19,15 @@ pub data Outcome : Type 0 where
   accepted : Work → Outcome
   refused : ℕ → ℕ → Outcome
 
-abbrev pub onward : ℕ → Told Work → (Work → Outcome) → Outcome
-onward line (is w) next = next w
-onward line (no n) next = refused n line
+abbrev pub nextLine : ℕ → Told Work → (Work → Outcome) → Outcome
+nextLine line (is w) next = next w
+nextLine line (no n) next = refused n line
 
 -- the lines from the one that starts at `at` on, `line` lines having been read
 abbrev pub assembleFrom : Task → List (List ℕ) → ℕ → ℕ → Work → Outcome
 assembleFrom t [] at line w = accepted w
 assembleFrom t (l ∷ ls) at line w =
-    onward (line + 1) (turn t at (read l) w) (assembleFrom t ls (at + length l + 1) (line + 1))
+    nextLine (line + 1) (turn t at (read l) w) (assembleFrom t ls (at + length l + 1) (line + 1))
 
 abbrev pub ascii : Task → ℕ → Outcome
 ascii t line = cond (eqb line 0) (assembleFrom t (lines (t .text)) 0 0 nothing) (refused 26 line)
@@ -61,6 +61,6 @@ abbrev pub report : Outcome → Report
 report (accepted w) = counts (length (w .words)) (length (w .labels)) (length (w .waiting))
 report (refused n line) = refusal n line
 
-abbrev pub answered : Assembled → Report
-answered (Assembled.Accepted words labels waiting) = counts words labels waiting
-answered (Assembled.Refused r line) = refusal (numberOf r) line
+abbrev pub reported : Assembled → Report
+reported (Assembled.Accepted words labels waiting) = counts words labels waiting
+reported (Assembled.Refused r line) = refusal (numberOf r) line

@@ -46,5 +46,5 @@ unfoldable pub patch : Bool → List ℕ → List ℕ → ℕ → List Open → 
 patch strict text name address [] words = is (patchedOf words [])
 patch strict text name address (o ∷ waiting) words =
     cond (names text (o .place) (o .length) name)
-    (wordOf strict (resolved (o .reference) address) >>= λ w. patch strict text name address waiting (set words (o .word) w))
+    (wordOf strict (resolved (o .reference) address) >>= λ w. patch strict text name address waiting (set words (o .word .0) w))
     (patch strict text name address waiting words >>= λ p. is (keep o p))

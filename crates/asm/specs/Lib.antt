@@ -5,3 +5,4 @@ pub mod Work
 pub mod Views
 pub mod Assemble
 pub mod Meaning
+pub mod Marked

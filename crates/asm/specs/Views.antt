@@ -20,7 +20,7 @@ use Rattle.labels.specs.Opens.{noOpen}
 use Rattle.asm.specs.Words.{wordOf}
 use Rattle.asm.specs.Labels.{part, Patched, patchedOf}
 use Rattle.asm.specs.Work.{Work, work}
-use Rattle.asm.specs.Assemble.{Outcome, accepted, refused, report, answered, wordsOf, labelsLeft}
+use Rattle.asm.specs.Assemble.{Outcome, accepted, refused, report, reported, wordsOf, labelsLeft}
 use Rattle.asm.specs.declared.Assembled.{Assembled}
 use Rattle.asm.specs.declared.Assembled.the-variants as Assembled
 use Rattle.asm.specs.declared.words.Added.{Added}
@@ -130,7 +130,7 @@ put (no n) i words = words
 abbrev pub patchThis : Bool → List ℕ → List ℕ → ℕ → Open → ℕ → List ℕ → List Open → Told Kept
 patchThis strict text name address o kept words waiting =
     cond (names text (o .place) (o .length) name)
-    (wordOf strict (resolved (o .reference) address) >>= λ w. is (keptOf kept (set words (o .word) w) waiting))
+    (wordOf strict (resolved (o .reference) address) >>= λ w. is (keptOf kept (set words (o .word .0) w) waiting))
     (is (keptOf (kept + 1) words (set waiting kept o)))
 
 unfoldable pub patchOne : Bool → List ℕ → List ℕ → ℕ → ℕ → ℕ → List ℕ → List Open → Told Kept
@@ -194,6 +194,6 @@ ended (Assembled.Refused r line) words labels waiting = refused (numberOf r) lin
 
 -- the answer's counts and the arrays' first words and labels are those of an outcome
 pub record EndedWith (a : Assembled) (words : List ℕ) (labels : List Label) (o : Outcome) : Type 0 where
-  pub answer : answered a ≡ report o
+  pub answer : reported a ≡ report o
   pub words-end : take (wordCount a) words ≡ wordsOf o
   pub labels-end : take (labelCount a) labels ≡ labelsLeft o

@@ -147,7 +147,7 @@ pub fn label_line(
                 rules,
                 text,
                 &text[place..past],
-                byte_address(here).0 as u16,
+                byte_address(here),
                 n.waiting,
                 words,
                 o_places,

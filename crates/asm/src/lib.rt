@@ -19,7 +19,8 @@ pub use reading::read_line;
 pub use turns::do_line;
 pub use turns::name_in;
 
-// The rules that a text is held to. Strict refuses an instruction whose word could not say what its line says.
+// The rules that a text is held to. Strict refuses an instruction exactly if a field exceeds its width, plain masks the field. Both let
+// a CJP to a register through, whose word decodes to JMP.
 pub struct Rules {
     pub strict: bool,
 }

@@ -11,7 +11,7 @@ use crate::Rules;
 use crate::encoding::Word;
 use crate::encoding::word_of;
 use crate::words::put_word;
-use base::InstructionIndex;
+use base::ByteAddress;
 use base::Refusal;
 use labels::Open;
 use labels::names;
@@ -48,16 +48,18 @@ pub fn add_open(
     }
 }
 
-// An open reference gets its address: its word is put. `kept` references before it stay open.
-fn settle(rules: Rules, o: Open, address: u16, kept: usize, output: &mut [u16]) -> Left
-    ensures { λ r. ⌜ left r ≡ settled (wordOf (rules .strict) (resolved (o .reference) address)) kept ⌝ }
-    ensures { λ r. ⌜ now (output .exit) ≡ put (wordOf (rules .strict) (resolved (o .reference) address)) (o .word) (now (output .entry)) ⌝ }
+// An open reference gets its address, which an instruction has in sixteen bits: its word is put. `kept` references before it stay
+// open.
+fn settle(rules: Rules, o: Open, address: ByteAddress, kept: usize, output: &mut [u16]) -> Left
+    requires { ⌜ address .0 ≤ 65535 ⌝ }
+    ensures { λ r. ⌜ left r ≡ settled (wordOf (rules .strict) (resolved (o .reference) (address .0))) kept ⌝ }
+    ensures { λ r. ⌜ now (output .exit) ≡ put (wordOf (rules .strict) (resolved (o .reference) (address .0))) (o .word .0) (now (output .entry)) ⌝ }
 {
     let what = o.reference;
-    let w = word_of(rules, resolved(what, address));
+    let w = word_of(rules, resolved(what, address.0 as u16));
     match w {
         Word::Is(v) => {
-            put_word(output, InstructionIndex(o.word), v);
+            put_word(output, o.word, v);
             Left::Count(kept)
         }
         Word::Refused(r) => Left::Refused(r),
@@ -69,7 +71,7 @@ fn patch_one(
     rules: Rules,
     text: &[u8],
     name: &[u8],
-    address: u16,
+    address: ByteAddress,
     i: usize,
     kept: usize,
     output: &mut [u16],
@@ -78,10 +80,10 @@ fn patch_one(
     words: &mut [u16],
     references: &mut [u8],
 ) -> Left
-    requires { ⌜ (kept ≤ i) × (i < 512) ⌝ }
+    requires { ⌜ (kept ≤ i) × (i < 512) × (address .0 ≤ 65535) ⌝ }
     requires { ⌜ i < length (opensOf (now places) (now lengths) (now words) (now references)) ⌝ }
     ensures { λ r. ⌜ stepped r (now (output .exit)) (opensOf (now (places .exit)) (now (lengths .exit)) (now (words .exit)) (now (references .exit)))
-        ≡ patchOne (rules .strict) (now (text .entry)) (now (name .entry)) address i kept (now (output .entry))
+        ≡ patchOne (rules .strict) (now (text .entry)) (now (name .entry)) (address .0) i kept (now (output .entry))
         (opensOf (now (places .entry)) (now (lengths .entry)) (now (words .entry)) (now (references .entry))) ⌝ }
 {
     let o = open_at(&places[..], &lengths[..], &words[..], &references[..], i);
@@ -99,7 +101,7 @@ pub fn patch(
     rules: Rules,
     text: &[u8],
     name: &[u8],
-    address: u16,
+    address: ByteAddress,
     count: usize,
     output: &mut [u16],
     places: &mut [usize],
@@ -107,10 +109,10 @@ pub fn patch(
     words: &mut [u16],
     references: &mut [u8],
 ) -> Left
-    requires { ⌜ count ≤ 512 ⌝ }
+    requires { ⌜ (count ≤ 512) × (address .0 ≤ 65535) ⌝ }
     requires { ⌜ count ≤ length (opensOf (now places) (now lengths) (now words) (now references)) ⌝ }
     ensures { λ r. ⌜ patched r (now (output .exit)) (opensOf (now (places .exit)) (now (lengths .exit)) (now (words .exit)) (now (references .exit)))
-        ≡ patch (rules .strict) (now (text .entry)) (now (name .entry)) address
+        ≡ patch (rules .strict) (now (text .entry)) (now (name .entry)) (address .0)
         (take count (opensOf (now (places .entry)) (now (lengths .entry)) (now (words .entry)) (now (references .entry)))) (now (output .entry)) ⌝ }
     ensures { λ r. ⌜ leftOf r ≤ count ⌝ }
 {

@@ -47,7 +47,7 @@ fn open_reference(
     let o = Open {
         place: place,
         length: size,
-        word: here.0,
+        word: here,
         reference: reference,
     };
     let added = add_word(words, here, 0);

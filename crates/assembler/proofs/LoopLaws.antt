@@ -11,7 +11,7 @@ use mathlib.Core.List.{List}
 use mathlib.Core.Path.{_∙_, _≡_, ap, refl, sym}
 use native.Mathlib.Omega.{arith}
 use Rattle.asm.proofs.LineLaws.{assemble-is, lines-end, task-same}
-use Rattle.asm.specs.Assemble.{Outcome, assemble, assembleFrom, counts, labelsLeft, onward, refused, report, wordsOf}
+use Rattle.asm.specs.Assemble.{Outcome, assemble, assembleFrom, counts, labelsLeft, nextLine, refused, report, wordsOf}
 use Rattle.asm.specs.Reading.{read}
 use Rattle.asm.specs.Views.{EndedWith, Within, ended, labelCount, labelsIn, turned, waitingCount, waitingIn, wordCount, wordsIn, workOf}
 use Rattle.asm.specs.Work.{Task, Work, nothing, task, turn}
@@ -89,7 +89,7 @@ module _ (strict : Bool) (text : List ℕ) (a₀ : Arrays) where
     pub fits : line < 2 ^ 64
     pub long : AsLong arrays a₀
     pub within : WithinIs t a₀
-    pub same : onward line (turnedIs t arrays) (assembleFrom T (lines (drop at text)) at line) ≡ assemble T
+    pub same : nextLine line (turnedIs t arrays) (assembleFrom T (lines (drop at text)) at line) ≡ assemble T
 
   -- before the first line
   pub few-start : (f : ℕ) (b : Bool) → eqb f 0 ≡ b → Few (cond b (Turn.Go none) (Turn.Refused NotAscii)) f 0
@@ -100,12 +100,12 @@ module _ (strict : Bool) (text : List ℕ) (a₀ : Arrays) where
   within-start true = (omega arith, omega arith, omega arith, omega arith)
   within-start false = (omega arith, omega arith, omega arith, omega arith)
 
-  same-start : (f : ℕ) (b : Bool) → eqb f 0 ≡ b → onward f (turnedIs (cond b (Turn.Go none) (Turn.Refused NotAscii)) a₀) (assembleFrom T (lines text) 0 f)
+  same-start : (f : ℕ) (b : Bool) → eqb f 0 ≡ b → nextLine f (turnedIs (cond b (Turn.Go none) (Turn.Refused NotAscii)) a₀) (assembleFrom T (lines text) 0 f)
       ≡ cond b (assembleFrom T (lines text) 0 0 nothing) (refused 26 f)
   same-start f true e = ap (λ (k : ℕ). assembleFrom T (lines text) 0 k nothing) (eqb-true f 0 e)
   same-start f false e = refl
 
-  pub same-whole : onward (foreignLine 1 text) (turnedIs (startOf (foreignLine 1 text)) a₀) (assembleFrom T (lines text) 0 (foreignLine 1 text)) ≡ assemble T
+  pub same-whole : nextLine (foreignLine 1 text) (turnedIs (startOf (foreignLine 1 text)) a₀) (assembleFrom T (lines text) 0 (foreignLine 1 text)) ≡ assemble T
   same-whole = same-start (foreignLine 1 text) (eqb (foreignLine 1 text) 0) refl ∙ sym (assemble-is T)
 
   abbrev pub start : foreignLine 1 text < 2 ^ 64 → Place
@@ -160,12 +160,12 @@ module _ (strict : Bool) (text : List ℕ) (a₀ : Arrays) where
   -- the line that is done, from the one turn to the other
   pub carried : (at line : ℕ) (t r : Turn) (a z : Arrays) → goesOn (ltb at (length text)) t ≡ true →
       turnedIs r z ≡ turn T at (read (lineAt text at)) (workOf (countsOf t) (a .0) (a .1 .0) (waitingIs a)) →
-      onward line (turnedIs t a) (assembleFrom T (lines (drop at text)) at line) ≡ assemble T →
-      onward (line + 1) (turnedIs r z) (assembleFrom T (lines (drop (afterLine text at) text)) (afterLine text at) (line + 1)) ≡ assemble T
+      nextLine line (turnedIs t a) (assembleFrom T (lines (drop at text)) at line) ≡ assemble T →
+      nextLine (line + 1) (turnedIs r z) (assembleFrom T (lines (drop (afterLine text at) text)) (afterLine text at) (line + 1)) ≡ assemble T
   carried at line (Turn.Go n) r a z e q s =
       let h : at < length text = ltb-true at (length text) e in
-      ap (λ (x : Told Work). onward (line + 1) x (assembleFrom T (lines (drop (afterLine text at) text)) (afterLine text at) (line + 1))) q ∙
-      ap (λ (k : ℕ). onward (line + 1) (turn T at (read (lineAt text at)) (workOf n (a .0) (a .1 .0) (waitingIs a))) (assembleFrom T (lines (drop (afterLine text at) text)) k (line + 1))) (sym (after-line text at h)) ∙
+      ap (λ (x : Told Work). nextLine (line + 1) x (assembleFrom T (lines (drop (afterLine text at) text)) (afterLine text at) (line + 1))) q ∙
+      ap (λ (k : ℕ). nextLine (line + 1) (turn T at (read (lineAt text at)) (workOf n (a .0) (a .1 .0) (waitingIs a))) (assembleFrom T (lines (drop (afterLine text at) text)) k (line + 1))) (sym (after-line text at h)) ∙
       sym (ap (λ (ls : List (List ℕ)). assembleFrom T ls at line (workOf n (a .0) (a .1 .0) (waitingIs a))) (lines-at text at h)) ∙ s
   carried at line (Turn.Refused r') r a z e q s = absurd (let k : _≡_ {A = ℕ} 0 1 = cc in omega arith)
 
@@ -198,7 +198,7 @@ module _ (strict : Bool) (text : List ℕ) (a₀ : Arrays) where
   nearer p e = omega (arith, after-line text (p .at) (there p e), there p e)
 
   -- at the end: both of what the contract says
-  ends-at : (at line : ℕ) (t : Turn) (a : Arrays) → goesOn (ltb at (length text)) t ≡ false → onward line (turnedIs t a) (assembleFrom T (lines (drop at text)) at line) ≡ assemble T →
+  ends-at : (at line : ℕ) (t : Turn) (a : Arrays) → goesOn (ltb at (length text)) t ≡ false → nextLine line (turnedIs t a) (assembleFrom T (lines (drop at text)) at line) ≡ assemble T →
       ended (endedAt t line) (a .0) (a .1 .0) (waitingIs a) ≡ assemble T
   ends-at at line (Turn.Go n) a e s = lines-end T text at line (workOf n (a .0) (a .1 .0) (waitingIs a)) (ltb-false at (length text) e) ∙ s
   ends-at at line (Turn.Refused r) a e s = s

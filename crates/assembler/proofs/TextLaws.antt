@@ -5,7 +5,7 @@ use mathlib.Core.Bool.{Bool}
 use mathlib.Core.List.{List}
 use mathlib.Core.Path.{_≡_, _∙_, ap}
 use Rattle.labels.specs.declared.Label.{Label}
-use Rattle.asm.specs.Assemble.{Outcome, outcome, filled, wordsOf, labelsLeft, report, answered}
+use Rattle.asm.specs.Assemble.{Outcome, outcome, filled, wordsOf, labelsLeft, report, reported}
 use Rattle.asm.specs.Views.{EndedWith, wordCount, labelCount}
 use Rattle.asm.specs.declared.Assembled.{Assembled}
 use Rattle.table.specs.Table as Table
@@ -25,7 +25,7 @@ module _ (strict : Bool) (text : List ℕ) (room n : ℕ) (l : Label) where
   pub same-outcome : outcome strict text room (length (replicate n l)) ≡ outcome strict text room n
   same-outcome = ap (outcome strict text room) (length-replicate n l)
 
-  pub report-of : (a : Assembled) → answered a ≡ report (outcome strict text room (length (replicate n l))) → answered a ≡ report (outcome strict text room n)
+  pub report-of : (a : Assembled) → reported a ≡ report (outcome strict text room (length (replicate n l))) → reported a ≡ report (outcome strict text room n)
   report-of a e = e ∙ ap report same-outcome
 
   pub words-of : (zs : List ℕ) → zs ≡ filled room (wordsOf (outcome strict text room (length (replicate n l)))) → zs ≡ filled room (wordsOf (outcome strict text room n))

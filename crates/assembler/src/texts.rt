@@ -1,7 +1,7 @@
 // A whole text, and what is left in what was lent.
 ghost use mathlib.Core.Path.{_≡_};
 ghost use lib.ListN.{length};
-ghost use Rattle.asm.specs.Assemble.{outcome, wordsOf, labelsLeft, filled, report, answered};
+ghost use Rattle.asm.specs.Assemble.{outcome, wordsOf, labelsLeft, filled, report, reported};
 ghost use Rattle.table.specs.Table as Table;
 use crate::answers::labels_left;
 use crate::answers::words_left;
@@ -14,7 +14,7 @@ use table::clear;
 
 // A refusal leaves all zero; what is accepted is followed by zeros.
 pub fn assemble(rules: Rules, text: &[u8], words: &mut [u16], table: &mut [Label]) -> Assembled
-    ensures { λ r. ⌜ answered r ≡ report (outcome (rules .strict) (now (text .entry)) (length (now (words .entry))) (length (now (table .entry)))) ⌝ }
+    ensures { λ r. ⌜ reported r ≡ report (outcome (rules .strict) (now (text .entry)) (length (now (words .entry))) (length (now (table .entry)))) ⌝ }
     ensures { λ _. ⌜ now (words .exit) ≡ filled (length (now (words .entry))) (wordsOf (outcome (rules .strict) (now (text .entry)) (length (now (words .entry))) (length (now (table .entry))))) ⌝ }
     ensures { λ _. ⌜ now (table .exit) ≡ Table.filled (length (now (table .entry))) (labelsLeft (outcome (rules .strict) (now (text .entry)) (length (now (words .entry))) (length (now (table .entry))))) ⌝ }
 {
@@ -39,7 +39,7 @@ pub fn assemble(rules: Rules, text: &[u8], words: &mut [u16], table: &mut [Label
 
 // With 1,024 label entries of its own, for a caller that wants the words alone.
 pub fn assemble_words(rules: Rules, text: &[u8], words: &mut [u16]) -> Assembled
-    ensures { λ r. ⌜ answered r ≡ report (outcome (rules .strict) (now (text .entry)) (length (now (words .entry))) 1024) ⌝ }
+    ensures { λ r. ⌜ reported r ≡ report (outcome (rules .strict) (now (text .entry)) (length (now (words .entry))) 1024) ⌝ }
     ensures { λ _. ⌜ now (words .exit) ≡ filled (length (now (words .entry))) (wordsOf (outcome (rules .strict) (now (text .entry)) (length (now (words .entry))) 1024)) ⌝ }
 {
     let mut table = [Label {

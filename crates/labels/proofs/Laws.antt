@@ -108,5 +108,5 @@ opens-next ps ls ws rs i h = drop-next (opensOf ps ls ws rs) i noOpen h
 pub label-fields : (l : Label) → label (l .place) (l .length) (l .address) ≡ l
 label-fields l = refl
 
-pub open-fields : (o : Open) → openTo (o .place) (o .length) (o .word) (o .reference) ≡ o
+pub open-fields : (o : Open) → openTo (o .place) (o .length) (o .word .0) (o .reference) ≡ o
 open-fields o = refl

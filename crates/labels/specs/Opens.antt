@@ -17,7 +17,7 @@ unfoldable pub referenceOf : ℕ → Reference
 referenceOf n = cond (eqb n 0) Jmp (cond (eqb n 1) CondJmp Call)
 
 abbrev pub openTo : ℕ → ℕ → ℕ → Reference → Open
-openTo place size word what = record { place = place; length = size; word = word; reference = what }
+openTo place size word what = record { place = place; length = size; word = record { 0 = word }; reference = what }
 
 -- what stands past the last entry
 abbrev pub noOpen : Open

@@ -5,6 +5,7 @@ mod arrays;
 mod entries;
 mod opens;
 
+use base::InstructionIndex;
 pub use entries::names;
 pub use opens::open_at;
 pub use opens::open_room;
@@ -22,7 +23,7 @@ pub struct Label {
 pub struct Open {
     pub place: usize,
     pub length: usize,
-    pub word: u16,
+    pub word: InstructionIndex,
     pub reference: Reference,
 }
 

@@ -7,6 +7,7 @@ use crate::arrays::least;
 use crate::arrays::put_byte;
 use crate::arrays::put_size;
 use crate::arrays::put_word;
+use base::InstructionIndex;
 use parser::Reference;
 
 fn code(reference: Reference) -> u8
@@ -55,14 +56,14 @@ pub fn open_at(
         return Open {
             place: places[i],
             length: lengths[i],
-            word: words[i],
+            word: InstructionIndex(words[i]),
             reference: what,
         };
     }
     Open {
         place: 0,
         length: 0,
-        word: 0,
+        word: InstructionIndex(0),
         reference: Reference::Jmp,
     }
 }
@@ -78,12 +79,12 @@ pub fn put_open(
 )
     ensures { λ _. ⌜ (now (places .exit) ≡ set (now (places .entry)) i (o .place))
         × (now (lengths .exit) ≡ set (now (lengths .entry)) i (o .length))
-        × (now (words .exit) ≡ set (now (words .entry)) i (o .word))
+        × (now (words .exit) ≡ set (now (words .entry)) i (o .word .0))
         × (now (references .exit) ≡ set (now (references .entry)) i (referenceCode (o .reference))) ⌝ }
 {
     let what = o.reference;
     put_size(places, i, o.place);
     put_size(lengths, i, o.length);
-    put_word(words, i, o.word);
+    put_word(words, i, o.word.0);
     put_byte(references, i, code(what));
 }

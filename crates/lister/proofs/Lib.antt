@@ -7,3 +7,4 @@ pub mod ShownLaws
 pub mod AnswerLaws
 pub mod AsciiLaws
 pub mod Example
+pub mod NameLaws

@@ -11,7 +11,7 @@ use Rattle.base.specs.declared.refusals.Refusal.the-variants.{NoRoom}
 use Rattle.asm.specs.declared.Assembled.{Assembled}
 use Rattle.asm.specs.declared.Assembled.the-variants as Assembled
 use Rattle.asm.specs.Work.{task}
-use Rattle.asm.specs.Assemble.{Outcome, accepted, refused, assemble, wordsOf, filled, report, answered}
+use Rattle.asm.specs.Assemble.{Outcome, accepted, refused, assemble, wordsOf, filled, report, reported}
 use Rattle.asm.proofs.FillLaws.{filled-first, filled-length}
 use Rattle.lister.specs.Listing.{shown, outcome, listing}
 use Rattle.lister.specs.Parts.{Tells, shownOf, wordCount}
@@ -23,7 +23,7 @@ unfolding outcome
 tells-19 source h = rw (lt-leb (length source) 65536 h) (record { answer = refl; first = refl; room = zero-le })
 
 pub tells : (source : List ℕ) {words : List ℕ} (a : Assembled) (room labels : ℕ) → length source ≤ 65536 → room ≡ 32767 → labels ≡ 1024
-    → answered a ≡ report (assemble (task true source room labels)) → words ≡ filled room (wordsOf (assemble (task true source room labels)))
+    → reported a ≡ report (assemble (task true source room labels)) → words ≡ filled room (wordsOf (assemble (task true source room labels)))
     → Tells a words (outcome source)
 unfolding outcome
 tells source a room labels h r l e f = rw (le-leb (length source) 65536 h, ← r, ← l, f) (record {
@@ -34,7 +34,7 @@ tells source a room labels h r l e f = rw (le-leb (length source) 65536 h, ← r
 
 -- ---- what is shown of it
 
-told-shown : (a : Assembled) (o : Outcome) (words : List ℕ) → answered a ≡ report o → take (length (wordsOf o)) words ≡ wordsOf o → shownOf a words ≡ shown o
+told-shown : (a : Assembled) (o : Outcome) (words : List ℕ) → reported a ≡ report o → take (length (wordsOf o)) words ≡ wordsOf o → shownOf a words ≡ shown o
 told-shown (Assembled.Accepted n labels left) (accepted w) words e f =
     let size : n ≡ length (w .words) = cc in
     let waiting : left ≡ length (w .waiting) = cc in
@@ -46,7 +46,7 @@ told-shown (Assembled.Refused r p) (refused k l) words e f =
     let place : p ≡ l = cc in
     rw (number, place)
 
-told-count : (a : Assembled) (o : Outcome) → answered a ≡ report o → wordCount a ≡ length (wordsOf o)
+told-count : (a : Assembled) (o : Outcome) → reported a ≡ report o → wordCount a ≡ length (wordsOf o)
 told-count (Assembled.Accepted n labels left) (accepted w) e = cc
 told-count (Assembled.Accepted n labels left) (refused k l) e = absurd (let z : _≡_ {A = ℕ} 0 1 = cc in omega arith)
 told-count (Assembled.Refused r p) (accepted w) e = absurd (let z : _≡_ {A = ℕ} 0 1 = cc in omega arith)

@@ -1,3 +1,4 @@
 pub mod Listing
 pub mod Pen
 pub mod Parts
+pub mod Names

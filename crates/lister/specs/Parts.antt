@@ -8,7 +8,7 @@ use Rattle.printer.specs.declared.Printed.{Printed}
 use Rattle.printer.specs.declared.Printed.the-variants.{Next, Refused}
 use Rattle.asm.specs.declared.Assembled.{Assembled}
 use Rattle.asm.specs.declared.Assembled.the-variants as Assembled
-use Rattle.asm.specs.Assemble.{Outcome, wordsOf, report, answered}
+use Rattle.asm.specs.Assemble.{Outcome, wordsOf, report, reported}
 use Rattle.lister.specs.Listing.{linesFrom, totals, refusal}
 
 -- how long a text is that was printed from position 0 on
@@ -28,6 +28,6 @@ shownOf (Assembled.Refused r place) words = refusal (numberOf r) place
 
 -- an answer and words that tell an outcome
 pub record Tells (a : Assembled) (words : List ℕ) (o : Outcome) : Type 0 where
-  pub answer : answered a ≡ report o
+  pub answer : reported a ≡ report o
   pub first : take (length (wordsOf o)) words ≡ wordsOf o
   pub room : length (wordsOf o) ≤ length words

@@ -7,14 +7,16 @@ use native.Mathlib.Nat.{not-suc-le-zero, le-of-suc-le-suc}
 use native.Mathlib.Numerals.{add-one}
 use lib.ListN.{length, drop, getD, drop-of-length-le, length-map}
 use lib.Seq.{drop-cons}
-use lib.Dec.{leb, leb→le, T}
-use borrow.Author.Tests.{eq-eqb, ne-eqb}
+use lib.Dec.{leb}
+use borrow.Author.Tests.{eq-eqb, ne-eqb, leb-true}
 use Rattle.base.specs.Bytes.{same}
 use Rattle.base.proofs.SameLaws.{same-lengths}
+use Rattle.base.proofs.Tests.{and-left, and-right}
 use Rattle.mnemonics.specs.declared.Mnemonic.{Mnemonic}
 use Rattle.mnemonics.specs.declared.Kind.{Kind}
 use Rattle.mnemonics.specs.declared.Kind.the-variants.{Unknown}
-use Rattle.mnemonics.specs.Mnemonics.{rows, nameOf, upper, kindIn}
+use Rattle.mnemonics.specs.Mnemonics.{rows, nameOf, upper}
+use Rattle.mnemonics.specs.Tables.{firstOf}
 
 -- ---- a token t and a name, byte after byte
 
@@ -31,47 +33,42 @@ letters-end t name i ht hn = rw (drop-of-length-le t ht, drop-of-length-le name 
 pub length-differs : (t name : List ℕ) → (length t ≡ length name → ⊥) → same (map upper t) name ≡ false
 length-differs t name h = same-lengths (map upper t) name (λ e. h (sym (length-map t upper) ∙ e))
 
--- ---- a name and the rows, row after row
+-- ---- a table, row after row; d is what stands past its end
+
+module _ {A B : Type 0} (passes : A → Bool) (says : A → B) (none : B) (rows : List A) (d : A) (i : ℕ) where
+  pub row-hit : i < length rows → passes (getD rows i d) ≡ true → firstOf passes says none (drop i rows) ≡ says (getD rows i d)
+  row-hit h e = rw (drop-cons rows i d, e)
+
+  pub row-miss : i < length rows → passes (getD rows i d) ≡ false → firstOf passes says none (drop i rows) ≡ firstOf passes says none (drop (i + 1) rows)
+  row-miss h e = rw (add-one, drop-cons rows i d, e)
+
+  pub rows-end : length rows ≤ i → firstOf passes says none (drop i rows) ≡ none
+  rows-end h = rw drop-of-length-le
+
+-- a rule that is tested once over a table holds of each row
+module _ {A : Type 0} (rule : A → Bool) (d : A) where
+  abbrev pub every : List A → Bool
+  every [] = true
+  every (r ∷ rs) = rule r && every rs
+
+  pub every-at : (rs : List A) → every rs ≡ true → (k : ℕ) → k < length rs → rule (getD rs k d) ≡ true
+  every-at [] e k h = absurd (not-suc-le-zero h)
+  every-at (r ∷ rs) e zero h = and-left (rule r) (every rs) e
+  every-at (r ∷ rs) e (suc k) h = every-at rs (and-right (rule r) (every rs) e) k (le-of-suc-le-suc h)
+
+-- ---- the thirty rows
 
 -- what Rattle has past the end of an array, where the code never looks: no bytes, 0, and the first kind
 abbrev pub noRow : Mnemonic
 noRow = record { name = []; length = 0; kind = Unknown }
 
-module _ (ms : List Mnemonic) (name : List ℕ) (i : ℕ) where
-  pub row-hit : i < length ms → same name (nameOf (getD ms i noRow)) ≡ true → kindIn (drop i ms) name ≡ getD ms i noRow .kind
-  row-hit h e = rw (drop-cons ms i noRow, e)
-
-  pub row-miss : i < length ms → same name (nameOf (getD ms i noRow)) ≡ false → kindIn (drop i ms) name ≡ kindIn (drop (i + 1) ms) name
-  row-miss h e = rw (add-one, drop-cons ms i noRow, e)
-
-  pub rows-end : length ms ≤ i → kindIn (drop i ms) name ≡ Unknown
-  rows-end h = rw drop-of-length-le
-
--- ---- the table's rule, tested once over the table: a length is at most 5
-
-abbrev every : (Mnemonic → Bool) → List Mnemonic → Bool
-every p [] = true
-every p (m ∷ ms) = p m && every p ms
-
-left : (a b : Bool) → T (a && b) → T a
-left true b t = tt
-left false b t = t
-
-right : (a b : Bool) → T (a && b) → T b
-right true b t = t
-right false b t = absurd t
-
-every-at : (p : Mnemonic → Bool) (ms : List Mnemonic) → T (every p ms) → (k : ℕ) → k < length ms → T (p (getD ms k noRow))
-every-at p [] t k h = absurd (not-suc-le-zero h)
-every-at p (m ∷ ms) t zero h = left (p m) (every p ms) t
-every-at p (m ∷ ms) t (suc k) h = every-at p ms (right (p m) (every p ms) t) k (le-of-suc-le-suc h)
-
-short : Mnemonic → Bool
+-- the table's rule: a length is at most 5
+abbrev short : Mnemonic → Bool
 short m = leb (m .length) 5
 
 pub at-most-five : (k : ℕ) → k < 30 → getD rows k noRow .length ≤ 5
-unfolding short rows
-at-most-five k h = leb→le _ _ (every-at short rows tt k h)
+unfolding rows
+at-most-five k h = leb-true (getD rows k noRow .length) 5 (every-at short noRow rows refl k h)
 
 pub thirty : length rows ≡ 30
 unfolding rows

@@ -1,21 +1,22 @@
 -- The thirty mnemonics, and the kind of a token: that of the row whose name the token is, in either case.
 use Prim.Native.Nat.{ℕ, _-_}
 use mathlib.Core.Bool.{Bool, true, false, _&&_}
-use mathlib.Core.List.{List, [], _∷_, _++_, map}
+use mathlib.Core.List.{List, [], _∷_, map}
 use lib.Dec.{leb}
-use lib.ListN.{length, take, replicate}
+use lib.ListN.{length, take}
 use Rattle.base.specs.Bytes.{bytes, same}
 use Rattle.base.specs.Choice.{cond}
 use Rattle.instruction.specs.declared.ArithOp.the-variants as four
 use Rattle.instruction.specs.declared.ArithmeticOp.the-variants as seven
 use Rattle.instruction.specs.declared.CompareOp.the-variants.{Eq, NotEq, Less, LessEq, Greater, GreaterEq}
+use Rattle.mnemonics.specs.Tables.{padded, firstOf}
 use Rattle.mnemonics.specs.declared.Kind.{Kind}
 use Rattle.mnemonics.specs.declared.Kind.the-variants.{Unknown, Dbg, Mov, MovShift, Copy, Arith, ArithRegReg, Transfer, Jump, Compare, Ret, Call}
 use Rattle.mnemonics.specs.declared.Mnemonic.{Mnemonic}
 
 -- the name padded with zeros to five bytes, its length, the kind
 abbrev pub row : List ℕ → Kind → Mnemonic
-row name k = record { name = name ++ replicate (5 - length name) 0; length = length name; kind = k }
+row name k = record { name = padded name; length = length name; kind = k }
 
 unfoldable pub rows : List Mnemonic
 rows =
@@ -61,8 +62,7 @@ upper b = cond (leb 97 b && leb b 122) (b - 32) b
 
 -- the kind of the first row with this name
 abbrev pub kindIn : List Mnemonic → List ℕ → Kind
-kindIn [] name = Unknown
-kindIn (m ∷ ms) name = cond (same name (nameOf m)) (m .kind) (kindIn ms name)
+kindIn ms name = firstOf (λ (m : Mnemonic). same name (nameOf m)) (λ (m : Mnemonic). m .kind) Unknown ms
 
 unfoldable pub kindOf : List ℕ → Kind
 kindOf token = kindIn rows (map upper token)

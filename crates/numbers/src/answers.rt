@@ -12,7 +12,7 @@ ghost use Rattle.base.specs.Numbers.{numberOf, answerNumber};
 ghost use Rattle.machine.specs.Answers.{answered};
 ghost use Rattle.memory.specs.Blocks.{counted};
 ghost use Rattle.printer.specs.Print.{printed};
-ghost use Rattle.asm.specs.Assemble as asm;
+ghost use Rattle.asm.specs.Assemble.{reported};
 ghost use Rattle.numbers.specs.Answers.{coded, stepCode, countedNumber, listedNumber, mostLines, assembledNumber, fitting};
 
 fn refused(r: Refusal) -> u64
@@ -97,8 +97,8 @@ fn line_above(line: usize) -> u64
 }
 
 pub fn of_assembly(a: Assembled) -> u64
-    requires { ⌜ fitting (asm.answered a) ≡ true ⌝ }
-    ensures { λ n. ⌜ n ≡ assembledNumber (asm.answered a) ⌝ }
+    requires { ⌜ fitting (reported a) ≡ true ⌝ }
+    ensures { λ n. ⌜ n ≡ assembledNumber (reported a) ⌝ }
 {
     match a {
         Assembled::Accepted(words, labels, waiting) => {

@@ -1,4 +1,5 @@
 pub mod OperandLaws
+pub mod RegisterLaws
 pub mod NumberLaws
 pub mod Laws
 pub mod ReferLaws

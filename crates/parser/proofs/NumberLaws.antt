@@ -6,7 +6,6 @@ use mathlib.Core.Bool.{Bool, true, false}
 use mathlib.Core.Logic.{_⊎_, inl, inr}
 use lib.Dec.{leb}
 use lib.ListN.{length}
-use Rattle.base.specs.Bytes.{bytes}
 use Rattle.base.specs.Choice.{cond}
 use Rattle.base.specs.Told.{Told, is, no, _>>=_}
 use Rattle.instruction.specs.declared.ArithOp.{ArithOp}
@@ -17,17 +16,16 @@ use Rattle.instruction.specs.declared.Instruction.the-variants.{Mov, Arith, Cpy
 use Rattle.instruction.specs.declared.Operand.{Operand}
 use Rattle.instruction.specs.declared.Operand.the-variants.{Reg, Imm}
 use Rattle.instruction.specs.declared.Register.{Register}
-use Rattle.instruction.specs.declared.Register.the-variants.{A, B, C, M, SP, PC, BP, FLAGS}
 use Rattle.mnemonics.specs.Mnemonics.{kindOf}
 use Rattle.mnemonics.specs.declared.Kind.{Kind}
 use Rattle.mnemonics.specs.declared.Kind.the-variants as kind
 use Rattle.text.specs.Immediates.{immediate}
-use Rattle.base.specs.Bytes.{same}
 use Rattle.text.specs.Parts.{equals, dropFront, dropEnd}
 use Rattle.text.proofs.Laws.{immediate-refused}
 use Rattle.parser.specs.declared.Reference.the-variants as reference
+use Rattle.parser.specs.declared.names.RegisterName.{RegisterName}
 use Rattle.parser.specs.Answers.{Meaning, says, refers, Both, both, Triple, triple, Turn, turn, Place, at}
-use Rattle.parser.specs.Operands.{nth, hash, opening, closing, comma, starts, register, commaRegister, operand, openedImmediate, eightBits, closedByte, registerAndOperand, threeRegisters, shiftOperands, bracketed, address}
+use Rattle.parser.specs.Operands.{nth, hash, opening, closing, comma, starts, called, registerNames, registerIn, register, commaRegister, operand, openedImmediate, eightBits, closedByte, registerAndOperand, threeRegisters, shiftOperands, bracketed, address}
 use Rattle.parser.specs.Parse.{takes, saying, mov, arith, compare, copy, combining, arithRegReg, turning, movShift, moving, transfer, jumping, registerElse, target, callee, meaning, parse}
 
 -- the numbers of 01's refusals of a line, apart from those of a blank one and of an unknown label
@@ -77,15 +75,11 @@ nth-fair (suc k) reads (t ∷ ts) p = nth-fair k reads ts p
 
 register-fair : (t : List ℕ) → Fair (register t)
 unfolding register
-register-fair t =
-    if-fair (same t (bytes "A")) (is A) _ tt
-    (if-fair (same t (bytes "B")) (is B) _ tt
-    (if-fair (same t (bytes "C")) (is C) _ tt
-    (if-fair (same t (bytes "M")) (is M) _ tt
-    (if-fair (same t (bytes "SP")) (is SP) _ tt
-    (if-fair (same t (bytes "PC")) (is PC) _ tt
-    (if-fair (same t (bytes "BP")) (is BP) _ tt
-    (if-fair (same t (bytes "FLAGS")) (is FLAGS) (no 20) tt 20-fair)))))))
+register-fair t = go registerNames
+  where
+    go : (rs : List RegisterName) → Fair (registerIn rs t)
+    go [] = 20-fair
+    go (r ∷ rs) = if-fair (called t r) (is (r .register)) (registerIn rs t) tt (go rs)
 
 comma-fair : (t : List ℕ) → Fair (commaRegister t)
 comma-fair t = register-fair (dropEnd (equals comma) t)

@@ -3,16 +3,18 @@ use Prim.Native.Nat.{ℕ, zero, suc}
 use mathlib.Core.List.{List, [], _∷_}
 use mathlib.Core.Bool.{Bool, true, false}
 use lib.Dec.{eqb, leb}
-use Rattle.base.specs.Bytes.{bytes}
+use lib.ListN.{length, take}
+use Rattle.base.specs.Bytes.{bytes, same}
 use Rattle.base.specs.Choice.{cond}
 use Rattle.base.specs.Told.{Told, is, no, _>>=_}
 use Rattle.instruction.specs.declared.Operand.{Operand}
 use Rattle.instruction.specs.declared.Operand.the-variants.{Reg, Imm}
 use Rattle.instruction.specs.declared.Register.{Register}
 use Rattle.instruction.specs.declared.Register.the-variants.{A, B, C, M, SP, PC, BP, FLAGS}
+use Rattle.mnemonics.specs.Tables.{padded, firstOf}
 use Rattle.text.specs.Immediates.{immediate}
-use Rattle.base.specs.Bytes.{same}
 use Rattle.text.specs.Parts.{equals, dropFront, dropEnd}
+use Rattle.parser.specs.declared.names.RegisterName.{RegisterName}
 use Rattle.parser.specs.Answers.{Both, both, Triple, triple, Turn, turn, Place, at}
 
 -- ---- one after the other
@@ -52,18 +54,32 @@ abbrev pub starts : ℕ → List ℕ → Bool
 starts b [] = false
 starts b (x ∷ xs) = eqb x b
 
+-- the registers by name: the name padded with zeros to five bytes, its length, the register
+abbrev pub row : List ℕ → Register → RegisterName
+row name r = record { name = padded name; length = length name; register = r }
+
+unfoldable pub registerNames : List RegisterName
+registerNames =
+    row (bytes "A") A
+    ∷ row (bytes "B") B
+    ∷ row (bytes "C") C
+    ∷ row (bytes "M") M
+    ∷ row (bytes "SP") SP
+    ∷ row (bytes "PC") PC
+    ∷ row (bytes "BP") BP
+    ∷ row (bytes "FLAGS") FLAGS
+    ∷ []
+
+-- is it this row's name?
+abbrev pub called : List ℕ → RegisterName → Bool
+called t r = same t (take (r .length) (r .name))
+
+abbrev pub registerIn : List RegisterName → List ℕ → Told Register
+registerIn rs t = firstOf (called t) (λ (r : RegisterName). is (r .register)) (no 20) rs
+
 -- registers are exact, else 20
 unfoldable pub register : List ℕ → Told Register
-register t =
-    cond (same t (bytes "A")) (is A)
-    (cond (same t (bytes "B")) (is B)
-    (cond (same t (bytes "C")) (is C)
-    (cond (same t (bytes "M")) (is M)
-    (cond (same t (bytes "SP")) (is SP)
-    (cond (same t (bytes "PC")) (is PC)
-    (cond (same t (bytes "BP")) (is BP)
-    (cond (same t (bytes "FLAGS")) (is FLAGS)
-    (no 20))))))))
+register t = registerIn registerNames t
 
 -- a register, its final commas dropped
 abbrev pub commaRegister : List ℕ → Told Register

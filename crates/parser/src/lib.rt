@@ -3,6 +3,7 @@ mod brackets;
 mod forms;
 mod jumps;
 mod lines;
+mod names;
 mod operands;
 mod references;
 mod registers;

@@ -1,8 +1,11 @@
 // Registers by name, and operands that are registers. The mnemonic is token 0 of a line, so operand k is token k.
 ghost use mathlib.Core.Path.{_≡_};
+ghost use Prim.Native.Nat.{_≤_};
 ghost use Rattle.text.specs.Tokens.{tokens};
 ghost use Rattle.parser.specs.Answers.{toldRegister, toldThree};
-ghost use Rattle.parser.specs.Operands.{nth, register, commaRegister, threeRegisters};
+ghost use Rattle.parser.specs.Operands.{nth, called, register, commaRegister, threeRegisters};
+use crate::names::RegisterName;
+use crate::names::register_names;
 use base::Refusal;
 use instruction::Register;
 
@@ -18,33 +21,29 @@ pub enum Three {
     Refused(Refusal),
 }
 
+// Is the token the name of this row, exactly? The length is compared first.
+fn is_called(token: &[u8], row: RegisterName) -> bool
+    requires { ⌜ row .length ≤ 5 ⌝ }
+    ensures { λ r. ⌜ r ≡ called (now (token .entry)) row ⌝ }
+{
+    let name = row.name;
+    let n = row.length;
+    text::same(token, &name[..n])
+}
+
 // The register of this name, exactly.
 pub fn register(token: &[u8]) -> Named
     ensures { λ r. ⌜ toldRegister r ≡ register (now (token .entry)) ⌝ }
 {
-    if text::same(token, b"A") {
-        return Named::Is(Register::A);
-    }
-    if text::same(token, b"B") {
-        return Named::Is(Register::B);
-    }
-    if text::same(token, b"C") {
-        return Named::Is(Register::C);
-    }
-    if text::same(token, b"M") {
-        return Named::Is(Register::M);
-    }
-    if text::same(token, b"SP") {
-        return Named::Is(Register::SP);
-    }
-    if text::same(token, b"PC") {
-        return Named::Is(Register::PC);
-    }
-    if text::same(token, b"BP") {
-        return Named::Is(Register::BP);
-    }
-    if text::same(token, b"FLAGS") {
-        return Named::Is(Register::FLAGS);
+    let t = register_names();
+    let mut i = 0;
+    while i < 8 {
+        let row = t[i];
+        if is_called(token, row) {
+            let r = row.register;
+            return Named::Is(r);
+        }
+        i += 1;
     }
     Named::Refused(Refusal::InvalidRegister)
 }

@@ -12,7 +12,7 @@ ghost use Prim.Native.Nat.{_/_, min};
 ghost use lib.Dec.{eqb};
 ghost use lib.ListN.{length, take};
 ghost use Rattle.wordbytes.specs.Words.{bytesOf};
-ghost use Rattle.asm.specs.Assemble.{wordsOf, filled, report, answered};
+ghost use Rattle.asm.specs.Assemble.{wordsOf, filled, report, reported};
 ghost use Rattle.lister.specs.Listing.{listed, listedBuffer};
 ghost use Rattle.numbers.specs.Answers.{listedNumber, fitting};
 ghost use Rattle.seamkettle.specs.Calls.{even, assembling, assembleNumber, assembledWords};
@@ -43,8 +43,8 @@ fn own_room(bytes: usize) -> usize
 fn assemble_bytes(rules: Rules, text: &[u8], words: &mut [u8], own: &mut [u16]) -> Assembled
     requires { ⌜ length (now own) ≡ 32767 ⌝ }
     requires { ⌜ even (now words) ≡ true ⌝ }
-    ensures { λ r. ⌜ answered r ≡ report (assembling (rules .strict) (now (text .entry)) (now (words .entry))) ⌝ }
-    ensures { λ r. ⌜ fitting (answered r) ≡ true ⌝ }
+    ensures { λ r. ⌜ reported r ≡ report (assembling (rules .strict) (now (text .entry)) (now (words .entry))) ⌝ }
+    ensures { λ r. ⌜ fitting (reported r) ≡ true ⌝ }
     ensures { λ _. ⌜ now (words .exit) ≡ bytesOf (filled (length (now (words .entry)) / 2) (wordsOf (assembling (rules .strict) (now (text .entry)) (now (words .entry))))) ⌝ }
 {
     let n = own_room(words.len());

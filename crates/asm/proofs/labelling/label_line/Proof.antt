@@ -1,5 +1,5 @@
 -- The label has its place in the table or a new one, and the references to it are patched; the first refusal counts. Assumes nothing.
-use Prim.Native.Nat.{_+_, _-_, ℕ}
+use Prim.Native.Nat.{_+_, _-_, _≤_, ℕ}
 use lib.ListN.{drop, length, set, take}
 use mathlib.Core.Path.{_∙_, _≡_, ap, sym}
 use native.Mathlib.Nat.{add-sub-cancel-left}
@@ -42,16 +42,14 @@ part-patch-end c = search needs
 byte-address-requires : tie.Need-byte-address-requires
 byte-address-requires c κs = search needs
 
-cast-patch : tie.Need-cast-patch
-cast-patch c = search needs
-
 patch-requires : tie.Need-patch-requires
 patch-requires c κs =
-    let s = c .before .before .before .before .before .before .before .before .before .before .before .before .before .before .before .before .before .before .before in
+    let s = c .before .before .before .before .before .before .before .before .before .before .before .before .before .before .before .before .before .before in
     let a = s .args in
     let lengths = s .pre .1 .1 in
     let room = opens-full (a .o-places .now) (a .o-lengths .now) (a .o-words .now) (a .o-references .now) 512 (lengths .0) (lengths .1) (lengths .2) (lengths .3) in
-    (s .pre .1 .0 .3, omega (arith, room, s .pre .1 .0 .3))
+    let address : doubled (a .n .words .0) ≤ 65535 = omega (arith, s .pre .1 .0 .1) in
+    ((s .pre .1 .0 .3, rw (c .before .before .before .before .before .byte-address .ensures) address), omega (arith, room, s .pre .1 .0 .3))
 
 after-requires : tie.Need-after-requires
 after-requires c κs = search needs
@@ -76,7 +74,7 @@ same-length-5 c = search needs
 
 returns : tie.Need-returns
 returns c =
-    let s = c .before .before .before .before .before .before .before .before .before .before .before .before .before .before .before .before .before .before .before .before .before .before .before .before .before .before .before .before .before .before .before in
+    let s = c .before .before .before .before .before .before .before .before .before .before .before .before .before .before .before .before .before .before .before .before .before .before .before .before .before .before .before .before .before .before in
     let a = s .args in
     let n = a .n in
     let words = a .words .now in
@@ -84,10 +82,10 @@ returns c =
     let text = a .text .now in
     let within = s .pre .1 .0 in
     let l = label (a .place) (a .size) (doubled (n .words .0)) in
-    let used = c .before .before .before .before .before .before .before .before .before .before .before .before .before .before .before .before .before .before .before .before .before .before .before .used in
-    let d = c .before .before .before .before .before .before .before .before .before .before .before .before .before .before .before .before .before .before .before .before .before .d .given in
+    let used = c .before .before .before .before .before .before .before .before .before .before .before .before .before .before .before .before .before .before .before .before .before .before .used in
+    let d = c .before .before .before .before .before .before .before .before .before .before .before .before .before .before .before .before .before .before .before .before .d .given in
     let k = d .0 .0 in
-    let address = c .before .before .before .before .before .before .before .before .before .before .before .before .before .before .before .before .before .before .byte-address in
+    let address = c .before .before .before .before .before .before .before .before .before .before .before .before .before .before .before .before .before .byte-address in
     let pat = c .before .before .before .before .before .before .before .before .before .before .before .patch in
     let left = pat .result in
     let words' = pat .last .1 .1 .1 .1 .1 .0 in
@@ -145,7 +143,6 @@ label-line-spec =
     part-patch-start
     part-patch-end
     byte-address-requires
-    cast-patch
     patch-requires
     after-requires
     enum-known-d-2

@@ -17,7 +17,7 @@ use Rattle.asm.proofs.patching.patch.Statement.{statement}
 use Rattle.asm.proofs.patching.patch.Tie as tie
 
 abbrev Inv-loop : tie.InvT-loop
-Inv-loop rules text name address count output₀ places₀ lengths₀ words₀ references₀ i₀ kept₀ output places lengths words references i kept = (kept ≤ i) × (i ≤ count) × (length output ≡ length output₀) × (length places ≡ length places₀) × (length lengths ≡ length lengths₀) × (length words ≡ length words₀) × (length references ≡ length references₀) × (left-to-patch (rules .strict) text name address count i kept (opensOf places lengths words references) output ≡ patch (rules .strict) text name address (take count (opensOf places₀ lengths₀ words₀ references₀)) output₀)
+Inv-loop rules text name address count output₀ places₀ lengths₀ words₀ references₀ i₀ kept₀ output places lengths words references i kept = (kept ≤ i) × (i ≤ count) × (length output ≡ length output₀) × (length places ≡ length places₀) × (length lengths ≡ length lengths₀) × (length words ≡ length words₀) × (length references ≡ length references₀) × (left-to-patch (rules .strict) text name (address .0) count i kept (opensOf places lengths words references) output ≡ patch (rules .strict) text name (address .0) (take count (opensOf places₀ lengths₀ words₀ references₀)) output₀)
 
 abbrev μ-loop : tie.MeasureT-loop
 μ-loop rules text name address count output₀ places₀ lengths₀ words₀ references₀ i₀ kept₀ output places lengths words references i kept = count - i
@@ -25,7 +25,7 @@ abbrev μ-loop : tie.MeasureT-loop
 loop-holds : tie.Need-loop-holds Inv-loop μ-loop
 loop-holds c =
     let s = c .before .before .before .before .before .before .before in
-    (search needs, search needs, refl, refl, refl, refl, refl, patch-begin (s .args .rules .strict) (s .args .text .now) (s .args .name .now) (s .args .address) (s .args .count) (opensOf (s .args .places .now) (s .args .lengths .now) (s .args .words .now) (s .args .references .now)) (s .args .output .now))
+    (search needs, search needs, refl, refl, refl, refl, refl, patch-begin (s .args .rules .strict) (s .args .text .now) (s .args .name .now) (s .args .address .0) (s .args .count) (opensOf (s .args .places .now) (s .args .lengths .now) (s .args .words .now) (s .args .references .now)) (s .args .output .now))
 
 patch-one-requires : tie.Need-patch-one-requires Inv-loop μ-loop
 patch-one-requires c κs =
@@ -36,7 +36,7 @@ patch-one-requires c κs =
     let e : length waiting ≡ length (opensOf (a .places .now) (a .lengths .now) (a .words .now) (a .references .now)) =
     opens-same (a .places .now) (a .lengths .now) (a .words .now) (a .references .now) (h .loop .places) (h .loop .lengths) (h .loop .words) (h .loop .references)
     (h .loop .inv .3) (h .loop .inv .4) (h .loop .inv .5) (h .loop .inv .6) in
-    ((h .loop .inv .0, omega (arith, c .before .before .before .before .before .loop-test .taken, s .pre .0)), omega (arith, e, c .before .before .before .before .before .loop-test .taken, s .pre .1))
+    ((h .loop .inv .0, omega (arith, c .before .before .before .before .before .loop-test .taken, s .pre .0 .0), s .pre .0 .1), omega (arith, e, c .before .before .before .before .before .loop-test .taken, s .pre .1))
 
 enum-known-one : tie.Need-enum-known-one Inv-loop μ-loop
 enum-known-one c = search needs
@@ -69,9 +69,9 @@ returns c =
     let words = one .last .1 .1 .1 .1 .1 .1 .0 in
     let waiting' = opensOf (one .last .1 .1 .1 .1 .1 .1 .1 .0) (one .last .1 .1 .1 .1 .1 .1 .1 .1 .0) (one .last .1 .1 .1 .1 .1 .1 .1 .1 .1 .0) (one .last .1 .1 .1 .1 .1 .1 .1 .1 .1 .1 .0) in
     let m : a .count ≤ length waiting = omega (arith, e, s .pre .1) in
-    let q : no (numberOf (c .before .one .given .0 .0)) ≡ patchOne (a .rules .strict) (a .text .now) (a .name .now) (a .address) (h .loop .i) (h .loop .kept) (h .loop .output) waiting =
+    let q : no (numberOf (c .before .one .given .0 .0)) ≡ patchOne (a .rules .strict) (a .text .now) (a .name .now) (a .address .0) (h .loop .i) (h .loop .kept) (h .loop .output) waiting =
     sym (ap (λ (x : Left). stepped x words waiting') (c .before .one .given .1)) ∙ one .ensures in (
-      patch-stop (a .rules .strict) (a .text .now) (a .name .now) (a .address) (a .count) (h .loop .i) (h .loop .kept) waiting (h .loop .output) (c .before .before .before .before .before .before .before .before .before .before .before .before .before .before .before .before .before .before .before .loop-test .taken) m (h .loop .inv .0) (numberOf (c .before .one .given .0 .0)) q ∙ h .loop .inv .7,
+      patch-stop (a .rules .strict) (a .text .now) (a .name .now) (a .address .0) (a .count) (h .loop .i) (h .loop .kept) waiting (h .loop .output) (c .before .before .before .before .before .before .before .before .before .before .before .before .before .before .before .before .before .before .before .loop-test .taken) m (h .loop .inv .0) (numberOf (c .before .one .given .0 .0)) q ∙ h .loop .inv .7,
       search needs,
     )
 
@@ -97,17 +97,17 @@ loop-again c =
     let words = one .last .1 .1 .1 .1 .1 .1 .0 in
     let waiting' = opensOf (one .last .1 .1 .1 .1 .1 .1 .1 .0) (one .last .1 .1 .1 .1 .1 .1 .1 .1 .0) (one .last .1 .1 .1 .1 .1 .1 .1 .1 .1 .0) (one .last .1 .1 .1 .1 .1 .1 .1 .1 .1 .1 .0) in
     let m : a .count ≤ length waiting = omega (arith, e, s .pre .1) in
-    let q : is (keptOf (c .before .one2 .given .0 .0) words waiting') ≡ patchOne (a .rules .strict) (a .text .now) (a .name .now) (a .address) (h .loop .i) (h .loop .kept) (h .loop .output) waiting =
+    let q : is (keptOf (c .before .one2 .given .0 .0) words waiting') ≡ patchOne (a .rules .strict) (a .text .now) (a .name .now) (a .address .0) (h .loop .i) (h .loop .kept) (h .loop .output) waiting =
     sym (ap (λ (x : Left). stepped x words waiting') (c .before .one2 .given .1)) ∙ one .ensures in
     let kept = keptOf (c .before .one2 .given .0 .0) words waiting' in (
-      patch-kept (a .rules .strict) (a .text .now) (a .name .now) (a .address) (a .count) (h .loop .i) (h .loop .kept) waiting (h .loop .output) (c .before .before .before .before .before .before .before .before .before .before .before .before .before .before .before .before .before .before .before .loop-test .taken) m (h .loop .inv .0) kept q,
+      patch-kept (a .rules .strict) (a .text .now) (a .name .now) (a .address .0) (a .count) (h .loop .i) (h .loop .kept) waiting (h .loop .output) (c .before .before .before .before .before .before .before .before .before .before .before .before .before .before .before .before .before .before .before .loop-test .taken) m (h .loop .inv .0) kept q,
       omega (arith, c .before .before .before .before .before .before .before .before .before .before .before .before .before .before .before .before .before .before .before .loop-test .taken),
       one .kept .1 .1 .1 .1 .1 .1 .0 ∙ h .loop .inv .2,
       one .kept .1 .1 .1 .1 .1 .1 .1 .0 ∙ h .loop .inv .3,
       one .kept .1 .1 .1 .1 .1 .1 .1 .1 .0 ∙ h .loop .inv .4,
       one .kept .1 .1 .1 .1 .1 .1 .1 .1 .1 .0 ∙ h .loop .inv .5,
       one .kept .1 .1 .1 .1 .1 .1 .1 .1 .1 .1 .0 ∙ h .loop .inv .6,
-      patch-go (a .rules .strict) (a .text .now) (a .name .now) (a .address) (a .count) (h .loop .i) (h .loop .kept) waiting (h .loop .output) (c .before .before .before .before .before .before .before .before .before .before .before .before .before .before .before .before .before .before .before .loop-test .taken) m (h .loop .inv .0) kept q ∙ h .loop .inv .7,
+      patch-go (a .rules .strict) (a .text .now) (a .name .now) (a .address .0) (a .count) (h .loop .i) (h .loop .kept) waiting (h .loop .output) (c .before .before .before .before .before .before .before .before .before .before .before .before .before .before .before .before .before .before .before .loop-test .taken) m (h .loop .inv .0) kept q ∙ h .loop .inv .7,
     )
 
 same-length-6 : tie.Need-same-length-6 Inv-loop μ-loop
@@ -135,8 +135,8 @@ returns-2 c =
     opens-same (a .places .now) (a .lengths .now) (a .words .now) (a .references .now) (h .loop .places) (h .loop .lengths) (h .loop .words) (h .loop .references)
     (h .loop .inv .3) (h .loop .inv .4) (h .loop .inv .5) (h .loop .inv .6) in
     let i : h .loop .i ≡ a .count = omega (arith, h .loop .inv .1, c .loop-test .left) in (
-      patch-end (a .rules .strict) (a .text .now) (a .name .now) (a .address) (a .count) (h .loop .kept) waiting (h .loop .output) ∙
-          ap (λ (j : ℕ). left-to-patch (a .rules .strict) (a .text .now) (a .name .now) (a .address) (a .count) j (h .loop .kept) waiting (h .loop .output)) (sym i) ∙ h .loop .inv .7,
+      patch-end (a .rules .strict) (a .text .now) (a .name .now) (a .address .0) (a .count) (h .loop .kept) waiting (h .loop .output) ∙
+          ap (λ (j : ℕ). left-to-patch (a .rules .strict) (a .text .now) (a .name .now) (a .address .0) (a .count) j (h .loop .kept) waiting (h .loop .output)) (sym i) ∙ h .loop .inv .7,
       omega (arith, h .loop .inv .0, h .loop .inv .1),
     )
 

@@ -48,11 +48,11 @@ returns c =
     let o = c .before .before .before .before .before .before .open-at .result in
     let eo : o ≡ getD waiting (a .i) noOpen = c .before .before .before .before .before .before .open-at .ensures in
     let name : names (a .text .now) (o .place) (o .length) (a .name .now) ≡ true = sym (c .before .before .before .before .before .names .ensures) ∙ c .before .before .before .before .if1 .taken in
-    let whole : patchThis (a .rules .strict) (a .text .now) (a .name .now) (a .address) o (a .kept) (a .output .now) waiting
-    ≡ patchOne (a .rules .strict) (a .text .now) (a .name .now) (a .address) (a .i) (a .kept) (a .output .now) waiting =
-    patch-this (a .rules .strict) (a .text .now) (a .name .now) (a .address) (a .i) (a .kept) (a .output .now) waiting o eo in
+    let whole : patchThis (a .rules .strict) (a .text .now) (a .name .now) (a .address .0) o (a .kept) (a .output .now) waiting
+    ≡ patchOne (a .rules .strict) (a .text .now) (a .name .now) (a .address .0) (a .i) (a .kept) (a .output .now) waiting =
+    patch-this (a .rules .strict) (a .text .now) (a .name .now) (a .address .0) (a .i) (a .kept) (a .output .now) waiting o eo in
     let settle = c .before .before .settle in
-    patch-hit (a .rules .strict) (a .text .now) (a .name .now) (a .address) (a .kept) (a .output .now) (settle .last .1 .1 .1 .1 .0) waiting o (settle .result) name (settle .ensures .0) (settle .ensures .1) ∙ whole
+    patch-hit (a .rules .strict) (a .text .now) (a .name .now) (a .address .0) (a .kept) (a .output .now) (settle .last .1 .1 .1 .1 .0) waiting o (settle .result) name (settle .ensures .0) (settle .ensures .1) ∙ whole
 
 put-open-requires : tie.Need-put-open-requires
 put-open-requires c κs = search needs
@@ -80,13 +80,13 @@ returns-2 c =
     let o = c .before .before .before .before .before .before .before .before .before .before .before .before .before .before .before .open-at .result in
     let eo : o ≡ getD waiting (a .i) noOpen = c .before .before .before .before .before .before .before .before .before .before .before .before .before .before .before .open-at .ensures in
     let name : names (a .text .now) (o .place) (o .length) (a .name .now) ≡ false = sym (c .before .before .before .before .before .before .before .before .before .before .before .before .before .before .names .ensures) ∙ c .before .before .before .before .before .before .before .before .before .before .before .before .before .if1 .left in
-    let whole : patchThis (a .rules .strict) (a .text .now) (a .name .now) (a .address) o (a .kept) (a .output .now) waiting
-    ≡ patchOne (a .rules .strict) (a .text .now) (a .name .now) (a .address) (a .i) (a .kept) (a .output .now) waiting =
-    patch-this (a .rules .strict) (a .text .now) (a .name .now) (a .address) (a .i) (a .kept) (a .output .now) waiting o eo in
+    let whole : patchThis (a .rules .strict) (a .text .now) (a .name .now) (a .address .0) o (a .kept) (a .output .now) waiting
+    ≡ patchOne (a .rules .strict) (a .text .now) (a .name .now) (a .address .0) (a .i) (a .kept) (a .output .now) waiting =
+    patch-this (a .rules .strict) (a .text .now) (a .name .now) (a .address .0) (a .i) (a .kept) (a .output .now) waiting o eo in
     let put = c .before .before .before .before .before .before .before .before .put-open in
     let e = opens-stored (a .places .now) (a .lengths .now) (a .words .now) (a .references .now) (put .last .0) (put .last .1 .0) (put .last .1 .1 .0) (put .last .1 .1 .1 .0) (a .kept) o (put .ensures .0) (put .ensures .1) (put .ensures .2) (put .ensures .3) in
     ap (λ (w : List Open). is (keptOf (a .kept + 1) (a .output .now) w)) e ∙
-    patch-miss (a .rules .strict) (a .text .now) (a .name .now) (a .address) (a .kept) (a .output .now) waiting o name ∙ whole
+    patch-miss (a .rules .strict) (a .text .now) (a .name .now) (a .address .0) (a .kept) (a .output .now) waiting o name ∙ whole
 
 pub patch-one-spec : {M : Type 1} → statement M
 patch-one-spec =

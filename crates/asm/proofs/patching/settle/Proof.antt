@@ -8,6 +8,9 @@ use Rattle.parser.specs.References.{resolved}
 use Rattle.asm.proofs.patching.settle.Statement.{statement}
 use Rattle.asm.proofs.patching.settle.Tie as tie
 
+cast-resolved : tie.Need-cast-resolved
+cast-resolved c = search needs
+
 resolved-requires : tie.Need-resolved-requires
 resolved-requires c κs = search needs
 
@@ -28,17 +31,17 @@ same-length c = search needs
 
 returns : tie.Need-returns
 returns c =
-    let s = c .before .before .before .before .before .before .before .before .before .before in
+    let s = c .before .before .before .before .before .before .before .before .before .before .before in
     let o = s .args .o in
-    let e : is (c .before .before .before .before .before .w .given .0 .0) ≡ wordOf (s .args .rules .strict) (resolved (o .reference) (s .args .address)) =
+    let e : is (c .before .before .before .before .before .w .given .0 .0) ≡ wordOf (s .args .rules .strict) (resolved (o .reference) (s .args .address .0)) =
     sym (ap toldWord (c .before .before .before .before .before .w .given .1)) ∙ c .before .before .before .before .before .before .before .word-of .ensures ∙ ap (wordOf (s .args .rules .strict)) (c .before .before .before .before .before .before .before .before .resolved .ensures) in
     (rw (← e), c .before .before .put-word .ensures ∙ rw (← e))
 
 returns-2 : tie.Need-returns-2
 returns-2 c =
-    let s = c .before .before .before .before .before .before in
+    let s = c .before .before .before .before .before .before .before in
     let o = s .args .o in
-    let e : no (numberOf (c .before .w2 .given .0 .0)) ≡ wordOf (s .args .rules .strict) (resolved (o .reference) (s .args .address)) =
+    let e : no (numberOf (c .before .w2 .given .0 .0)) ≡ wordOf (s .args .rules .strict) (resolved (o .reference) (s .args .address .0)) =
     sym (ap toldWord (c .before .w2 .given .1)) ∙ c .before .before .before .word-of .ensures ∙ ap (wordOf (s .args .rules .strict)) (c .before .before .before .before .resolved .ensures) in
     (rw (← e), rw (← e))
 
@@ -46,6 +49,7 @@ pub settle-spec : {M : Type 1} → statement M
 settle-spec =
     tie.close
     (tie.spec
+    cast-resolved
     resolved-requires
     word-of-requires
     enum-known-w

@@ -48,7 +48,7 @@ use Rattle.labels.proofs.Label as T
 use Rattle.labels.proofs.Label.Laws as T′
 use Rattle.asm.specs.declared.Rules.{Rules}
 use Rattle.asm.specs.declared.Assembled.{Assembled}
-use Rattle.asm.specs.Assemble.{outcome, wordsOf, labelsLeft, filled, report, answered}
+use Rattle.asm.specs.Assemble.{outcome, wordsOf, labelsLeft, filled, report, reported}
 use Rattle.asm.proofs.Rules as U
 use Rattle.asm.proofs.Rules.Laws as U′
 use Rattle.asm.proofs.Assembled as R
@@ -133,7 +133,7 @@ module _ {M : Type 1} (𝓤 : URA M) (H : Heap 𝓤) (A : Atoms 𝓤) (W : Given
 
   -- what is known of the answer r and the last words ws
   abbrev Known : ℕ → Assembled → List ℕ → Type 0
-  Known n r ws = (length ws ≡ length (now words)) × (answered r ≡ report (outcome (rules .strict) (now text) (length (now words)) n)) × (ws ≡ filled (length (now words)) (wordsOf (outcome (rules .strict) (now text) (length (now words)) n)))
+  Known n r ws = (length ws ≡ length (now words)) × (reported r ≡ report (outcome (rules .strict) (now text) (length (now words)) n)) × (ws ≡ filled (length (now words)) (wordsOf (outcome (rules .strict) (now text) (length (now words)) n)))
 
   -- the call of `assemble`, for the lifetime α of the table's loan under the name γ, where the table lies at b
   module _ (α b : ℕ) (γ : GName) where
@@ -185,7 +185,7 @@ module _ {M : Type 1} (𝓤 : URA M) (H : Heap 𝓤) (A : Atoms 𝓤) (W : Given
 
     -- what its three clauses say
     abbrev Answers : Assembled → Type 0
-    Answers r = answered r ≡ report (outcome (rules .strict) (now text) (length (now words)) (length none))
+    Answers r = reported r ≡ report (outcome (rules .strict) (now text) (length (now words)) (length none))
 
     abbrev Words : List ℕ → Type 0
     Words ws = ws ≡ filled (length (now words)) (wordsOf (outcome (rules .strict) (now text) (length (now words)) (length none)))

@@ -1,17 +1,25 @@
 -- What is found from row i on is what is found in all of the table. Assumes nothing.
-use Prim.Native.Nat.{_≤_, _<_, _-_}
+use Prim.Native.Nat.{ℕ, _≤_, _<_, _-_}
 use mathlib.Core.Path.{_≡_, _∙_, refl, sym, ap}
-use mathlib.Core.Bool.{true, false}
+use mathlib.Core.Bool.{Bool, true, false}
 use mathlib.Core.List.{List, map}
 use native.Mathlib.Omega.{arith}
 use lib.ListN.{drop, getD}
 use Rattle.base.specs.Bytes.{same}
+use Rattle.mnemonics.specs.declared.Kind.{Kind}
+use Rattle.mnemonics.specs.declared.Kind.the-variants.{Unknown}
 use Rattle.mnemonics.specs.declared.Mnemonic.{Mnemonic}
 use Rattle.mnemonics.specs.Mnemonics.{rows, nameOf, upper, kindIn, kindOf}
 use Rattle.mnemonics.proofs.Scans.{noRow, row-hit, row-miss, rows-end, at-most-five, thirty}
 use borrow.Author.Needs.{needs}
 use Rattle.mnemonics.proofs.spelling.kind_of.Statement.{statement}
 use Rattle.mnemonics.proofs.spelling.kind_of.Tie as tie
+
+abbrev called : List ℕ → Mnemonic → Bool
+called name m = same name (nameOf m)
+
+abbrev kind : Mnemonic → Kind
+kind m = m .kind
 
 abbrev Inv-loop : tie.InvT-loop
 Inv-loop token t i₀ i = (i ≤ 30) × (kindIn (drop i rows) (map upper token) ≡ kindOf token)
@@ -46,7 +54,7 @@ returns c =
     let q = h .before .table .ensures in
     let e : same name (nameOf (getD rows i noRow)) ≡ true =
     ap (λ (t : List Mnemonic). same name (nameOf (getD t i noRow))) (sym q) ∙ sym (c .before .spells .ensures) ∙ c .if1 .taken in
-    ap (λ (t : List Mnemonic). getD t i noRow .kind) q ∙ sym (row-hit rows name i (omega (arith, thirty)) e) ∙ h .loop .inv .1
+    ap (λ (t : List Mnemonic). getD t i noRow .kind) q ∙ sym (row-hit (called name) kind Unknown rows noRow i (omega (arith, thirty)) e) ∙ h .loop .inv .1
 
 add-i : tie.Need-add-i Inv-loop μ-loop
 add-i c = search needs
@@ -62,12 +70,12 @@ loop-again c =
     let q = h .before .table .ensures in
     let e : same name (nameOf (getD rows i noRow)) ≡ false =
     ap (λ (t : List Mnemonic). same name (nameOf (getD t i noRow))) (sym q) ∙ sym (c .before .spells .ensures) ∙ c .if1 .left in
-    (search needs, sym (row-miss rows name i (omega (arith, thirty)) e) ∙ h .loop .inv .1)
+    (search needs, sym (row-miss (called name) kind Unknown rows noRow i (omega (arith, thirty)) e) ∙ h .loop .inv .1)
 
 returns-2 : tie.Need-returns-2 Inv-loop μ-loop
 returns-2 c =
     let h = c .before in
-    sym (rows-end rows (map upper (h .before .before .before .args .token .now)) (h .loop .i) (omega (arith, thirty))) ∙ h .loop .inv .1
+    sym (rows-end (called (map upper (h .before .before .before .args .token .now))) kind Unknown rows noRow (h .loop .i) (omega (arith, thirty))) ∙ h .loop .inv .1
 
 pub kind-of-spec : {M : Type 1} → statement M
 kind-of-spec =

@@ -1,229 +1,92 @@
--- The names are tried in the order of the definition. Assumes nothing.
+-- What is found from row i on is what is found in all of the table. Assumes nothing.
+use Prim.Native.Nat.{ℕ, _≤_, _<_, _-_}
+use mathlib.Core.Path.{_≡_, _∙_, refl, sym, ap}
+use mathlib.Core.Bool.{true, false}
+use mathlib.Core.List.{List}
+use native.Mathlib.Omega.{arith}
+use lib.ListN.{drop, getD}
+use Rattle.base.specs.Told.{Told, is, no}
+use Rattle.instruction.specs.declared.Register.{Register}
+use Rattle.mnemonics.proofs.Scans.{row-hit, row-miss, rows-end}
+use Rattle.parser.specs.declared.names.RegisterName.{RegisterName}
+use Rattle.parser.specs.Operands.{called, registerNames, registerIn, register}
+use Rattle.parser.proofs.RegisterLaws.{noRow, at-most-five, eight}
 use borrow.Author.Needs.{needs}
-use mathlib.Core.Bool.{false, true}
-use mathlib.Core.Path.{_∙_, _≡_, sym}
-use Rattle.base.specs.Bytes.{bytes}
-use Rattle.parser.specs.Operands.{register}
-use Rattle.base.specs.Bytes.{same}
 use Rattle.parser.proofs.registers.register.Statement.{statement}
 use Rattle.parser.proofs.registers.register.Tie as tie
 
-slice-aggregate-same : tie.Need-slice-aggregate-same
-slice-aggregate-same c = search needs
+abbrev told : RegisterName → Told Register
+told r = is (r .register)
 
-same-requires : tie.Need-same-requires
-same-requires c κs = search needs
+abbrev Inv-loop : tie.InvT-loop
+Inv-loop token t i₀ i = (i ≤ 8) × (registerIn (drop i registerNames) token ≡ register token)
 
-returns : tie.Need-returns
+abbrev μ-loop : tie.MeasureT-loop
+μ-loop token t i₀ i = 8 - i
+
+register-names-requires : tie.Need-register-names-requires Inv-loop μ-loop
+register-names-requires c κs = search needs
+
+loop-holds : tie.Need-loop-holds Inv-loop μ-loop
 unfolding register
+loop-holds c = (search needs, refl)
+
+mul-row : tie.Need-mul-row Inv-loop μ-loop
+mul-row c = search needs
+
+array-copy-out-row : tie.Need-array-copy-out-row Inv-loop μ-loop
+array-copy-out-row c = search needs
+
+is-called-requires : tie.Need-is-called-requires Inv-loop μ-loop
+is-called-requires c κs =
+    let h = c .before .before in
+    let b : h .loop .i < 8 = search needs in
+    rw (h .before .register-names .ensures) (at-most-five (h .loop .i) b)
+
+returns : tie.Need-returns Inv-loop μ-loop
 returns c =
-    let c4 = c .before .before .before .before in
-    let t = c4 .args .token .now in
-    let isA : same t (bytes "A") ≡ true = sym (c .before .same .ensures) ∙ c .if1 .taken in
-    rw (isA)
+    let h = c .before .before .before .before in
+    let token = h .before .before .before .args .token .now in
+    let i = h .loop .i in
+    let q = h .before .register-names .ensures in
+    let e : called token (getD registerNames i noRow) ≡ true =
+    ap (λ (t : List RegisterName). called token (getD t i noRow)) (sym q) ∙ sym (c .before .is-called .ensures) ∙ c .if1 .taken in
+    ap (λ (t : List RegisterName). told (getD t i noRow)) q ∙ sym (row-hit (called token) told (no 20) registerNames noRow i (omega (arith, eight)) e) ∙ h .loop .inv .1
 
-slice-aggregate-same-2 : tie.Need-slice-aggregate-same-2
-slice-aggregate-same-2 c = search needs
+add-i : tie.Need-add-i Inv-loop μ-loop
+add-i c = search needs
 
-same-requires-2 : tie.Need-same-requires-2
-same-requires-2 c κs = search needs
+loop-less : tie.Need-loop-less Inv-loop μ-loop
+loop-less c = search needs
 
-returns-2 : tie.Need-returns-2
-unfolding register
+loop-again : tie.Need-loop-again Inv-loop μ-loop
+loop-again c =
+    let h = c .before .before .before .before in
+    let token = h .before .before .before .args .token .now in
+    let i = h .loop .i in
+    let q = h .before .register-names .ensures in
+    let e : called token (getD registerNames i noRow) ≡ false =
+    ap (λ (t : List RegisterName). called token (getD t i noRow)) (sym q) ∙ sym (c .before .is-called .ensures) ∙ c .if1 .left in
+    (search needs, sym (row-miss (called token) told (no 20) registerNames noRow i (omega (arith, eight)) e) ∙ h .loop .inv .1)
+
+returns-2 : tie.Need-returns-2 Inv-loop μ-loop
 returns-2 c =
-    let c3 = c .before .before .before in
-    let c7 = c3 .before .before .before .before in
-    let t = c7 .args .token .now in
-    let isA : same t (bytes "A") ≡ false = sym (c3 .before .same .ensures) ∙ c3 .if1 .left in
-    let isB : same t (bytes "B") ≡ true = sym (c .before .same2 .ensures) ∙ c .if2 .taken in
-    rw (isA, isB)
-
-slice-aggregate-same-3 : tie.Need-slice-aggregate-same-3
-slice-aggregate-same-3 c = search needs
-
-same-requires-3 : tie.Need-same-requires-3
-same-requires-3 c κs = search needs
-
-returns-3 : tie.Need-returns-3
-unfolding register
-returns-3 c =
-    let c3 = c .before .before .before in
-    let c6 = c3 .before .before .before in
-    let c10 = c6 .before .before .before .before in
-    let t = c10 .args .token .now in
-    let isA : same t (bytes "A") ≡ false = sym (c6 .before .same .ensures) ∙ c6 .if1 .left in
-    let isB : same t (bytes "B") ≡ false = sym (c3 .before .same2 .ensures) ∙ c3 .if2 .left in
-    let isC : same t (bytes "C") ≡ true = sym (c .before .same3 .ensures) ∙ c .if3 .taken in
-    rw (isA, isB, isC)
-
-slice-aggregate-same-4 : tie.Need-slice-aggregate-same-4
-slice-aggregate-same-4 c = search needs
-
-same-requires-4 : tie.Need-same-requires-4
-same-requires-4 c κs = search needs
-
-returns-4 : tie.Need-returns-4
-unfolding register
-returns-4 c =
-    let c3 = c .before .before .before in
-    let c6 = c3 .before .before .before in
-    let c9 = c6 .before .before .before in
-    let c13 = c9 .before .before .before .before in
-    let t = c13 .args .token .now in
-    let isA : same t (bytes "A") ≡ false = sym (c9 .before .same .ensures) ∙ c9 .if1 .left in
-    let isB : same t (bytes "B") ≡ false = sym (c6 .before .same2 .ensures) ∙ c6 .if2 .left in
-    let isC : same t (bytes "C") ≡ false = sym (c3 .before .same3 .ensures) ∙ c3 .if3 .left in
-    let isM : same t (bytes "M") ≡ true = sym (c .before .same4 .ensures) ∙ c .if4 .taken in
-    rw (isA, isB, isC, isM)
-
-slice-aggregate-same-5 : tie.Need-slice-aggregate-same-5
-slice-aggregate-same-5 c = search needs
-
-same-requires-5 : tie.Need-same-requires-5
-same-requires-5 c κs = search needs
-
-returns-5 : tie.Need-returns-5
-unfolding register
-returns-5 c =
-    let c3 = c .before .before .before in
-    let c6 = c3 .before .before .before in
-    let c9 = c6 .before .before .before in
-    let c12 = c9 .before .before .before in
-    let c16 = c12 .before .before .before .before in
-    let t = c16 .args .token .now in
-    let isA : same t (bytes "A") ≡ false = sym (c12 .before .same .ensures) ∙ c12 .if1 .left in
-    let isB : same t (bytes "B") ≡ false = sym (c9 .before .same2 .ensures) ∙ c9 .if2 .left in
-    let isC : same t (bytes "C") ≡ false = sym (c6 .before .same3 .ensures) ∙ c6 .if3 .left in
-    let isM : same t (bytes "M") ≡ false = sym (c3 .before .same4 .ensures) ∙ c3 .if4 .left in
-    let isSP : same t (bytes "SP") ≡ true = sym (c .before .same5 .ensures) ∙ c .if5 .taken in
-    rw (isA, isB, isC, isM, isSP)
-
-slice-aggregate-same-6 : tie.Need-slice-aggregate-same-6
-slice-aggregate-same-6 c = search needs
-
-same-requires-6 : tie.Need-same-requires-6
-same-requires-6 c κs = search needs
-
-returns-6 : tie.Need-returns-6
-unfolding register
-returns-6 c =
-    let c3 = c .before .before .before in
-    let c6 = c3 .before .before .before in
-    let c9 = c6 .before .before .before in
-    let c12 = c9 .before .before .before in
-    let c15 = c12 .before .before .before in
-    let c19 = c15 .before .before .before .before in
-    let t = c19 .args .token .now in
-    let isA : same t (bytes "A") ≡ false = sym (c15 .before .same .ensures) ∙ c15 .if1 .left in
-    let isB : same t (bytes "B") ≡ false = sym (c12 .before .same2 .ensures) ∙ c12 .if2 .left in
-    let isC : same t (bytes "C") ≡ false = sym (c9 .before .same3 .ensures) ∙ c9 .if3 .left in
-    let isM : same t (bytes "M") ≡ false = sym (c6 .before .same4 .ensures) ∙ c6 .if4 .left in
-    let isSP : same t (bytes "SP") ≡ false = sym (c3 .before .same5 .ensures) ∙ c3 .if5 .left in
-    let isPC : same t (bytes "PC") ≡ true = sym (c .before .same6 .ensures) ∙ c .if6 .taken in
-    rw (isA, isB, isC, isM, isSP, isPC)
-
-slice-aggregate-same-7 : tie.Need-slice-aggregate-same-7
-slice-aggregate-same-7 c = search needs
-
-same-requires-7 : tie.Need-same-requires-7
-same-requires-7 c κs = search needs
-
-returns-7 : tie.Need-returns-7
-unfolding register
-returns-7 c =
-    let c3 = c .before .before .before in
-    let c6 = c3 .before .before .before in
-    let c9 = c6 .before .before .before in
-    let c12 = c9 .before .before .before in
-    let c15 = c12 .before .before .before in
-    let c18 = c15 .before .before .before in
-    let c22 = c18 .before .before .before .before in
-    let t = c22 .args .token .now in
-    let isA : same t (bytes "A") ≡ false = sym (c18 .before .same .ensures) ∙ c18 .if1 .left in
-    let isB : same t (bytes "B") ≡ false = sym (c15 .before .same2 .ensures) ∙ c15 .if2 .left in
-    let isC : same t (bytes "C") ≡ false = sym (c12 .before .same3 .ensures) ∙ c12 .if3 .left in
-    let isM : same t (bytes "M") ≡ false = sym (c9 .before .same4 .ensures) ∙ c9 .if4 .left in
-    let isSP : same t (bytes "SP") ≡ false = sym (c6 .before .same5 .ensures) ∙ c6 .if5 .left in
-    let isPC : same t (bytes "PC") ≡ false = sym (c3 .before .same6 .ensures) ∙ c3 .if6 .left in
-    let isBP : same t (bytes "BP") ≡ true = sym (c .before .same7 .ensures) ∙ c .if7 .taken in
-    rw (isA, isB, isC, isM, isSP, isPC, isBP)
-
-slice-aggregate-same-8 : tie.Need-slice-aggregate-same-8
-slice-aggregate-same-8 c = search needs
-
-same-requires-8 : tie.Need-same-requires-8
-same-requires-8 c κs = search needs
-
-returns-8 : tie.Need-returns-8
-unfolding register
-returns-8 c =
-    let c3 = c .before .before .before in
-    let c6 = c3 .before .before .before in
-    let c9 = c6 .before .before .before in
-    let c12 = c9 .before .before .before in
-    let c15 = c12 .before .before .before in
-    let c18 = c15 .before .before .before in
-    let c21 = c18 .before .before .before in
-    let c25 = c21 .before .before .before .before in
-    let t = c25 .args .token .now in
-    let isA : same t (bytes "A") ≡ false = sym (c21 .before .same .ensures) ∙ c21 .if1 .left in
-    let isB : same t (bytes "B") ≡ false = sym (c18 .before .same2 .ensures) ∙ c18 .if2 .left in
-    let isC : same t (bytes "C") ≡ false = sym (c15 .before .same3 .ensures) ∙ c15 .if3 .left in
-    let isM : same t (bytes "M") ≡ false = sym (c12 .before .same4 .ensures) ∙ c12 .if4 .left in
-    let isSP : same t (bytes "SP") ≡ false = sym (c9 .before .same5 .ensures) ∙ c9 .if5 .left in
-    let isPC : same t (bytes "PC") ≡ false = sym (c6 .before .same6 .ensures) ∙ c6 .if6 .left in
-    let isBP : same t (bytes "BP") ≡ false = sym (c3 .before .same7 .ensures) ∙ c3 .if7 .left in
-    let isFLAGS : same t (bytes "FLAGS") ≡ true = sym (c .before .same8 .ensures) ∙ c .if8 .taken in
-    rw (isA, isB, isC, isM, isSP, isPC, isBP, isFLAGS)
-
-returns-9 : tie.Need-returns-9
-unfolding register
-returns-9 c =
-    let c3 = c .before .before .before in
-    let c6 = c3 .before .before .before in
-    let c9 = c6 .before .before .before in
-    let c12 = c9 .before .before .before in
-    let c15 = c12 .before .before .before in
-    let c18 = c15 .before .before .before in
-    let c21 = c18 .before .before .before in
-    let c25 = c21 .before .before .before .before in
-    let t = c25 .args .token .now in
-    let isA : same t (bytes "A") ≡ false = sym (c21 .before .same .ensures) ∙ c21 .if1 .left in
-    let isB : same t (bytes "B") ≡ false = sym (c18 .before .same2 .ensures) ∙ c18 .if2 .left in
-    let isC : same t (bytes "C") ≡ false = sym (c15 .before .same3 .ensures) ∙ c15 .if3 .left in
-    let isM : same t (bytes "M") ≡ false = sym (c12 .before .same4 .ensures) ∙ c12 .if4 .left in
-    let isSP : same t (bytes "SP") ≡ false = sym (c9 .before .same5 .ensures) ∙ c9 .if5 .left in
-    let isPC : same t (bytes "PC") ≡ false = sym (c6 .before .same6 .ensures) ∙ c6 .if6 .left in
-    let isBP : same t (bytes "BP") ≡ false = sym (c3 .before .same7 .ensures) ∙ c3 .if7 .left in
-    let isFLAGS : same t (bytes "FLAGS") ≡ false = sym (c .before .same8 .ensures) ∙ c .if8 .left in
-    rw (isA, isB, isC, isM, isSP, isPC, isBP, isFLAGS)
+    let h = c .before in
+    sym (rows-end (called (h .before .before .before .args .token .now)) told (no 20) registerNames noRow (h .loop .i) (omega (arith, eight))) ∙ h .loop .inv .1
 
 pub register-spec : {M : Type 1} → statement M
 register-spec =
     tie.close
     (tie.spec
-    slice-aggregate-same
-    same-requires
+    Inv-loop
+    μ-loop
+    register-names-requires
+    loop-holds
+    mul-row
+    array-copy-out-row
+    is-called-requires
     returns
-    slice-aggregate-same-2
-    same-requires-2
-    returns-2
-    slice-aggregate-same-3
-    same-requires-3
-    returns-3
-    slice-aggregate-same-4
-    same-requires-4
-    returns-4
-    slice-aggregate-same-5
-    same-requires-5
-    returns-5
-    slice-aggregate-same-6
-    same-requires-6
-    returns-6
-    slice-aggregate-same-7
-    same-requires-7
-    returns-7
-    slice-aggregate-same-8
-    same-requires-8
-    returns-8
-    returns-9)
+    add-i
+    loop-less
+    loop-again
+    returns-2)

@@ -2,7 +2,7 @@
 use mathlib.Core.Path.{sym}
 use denote.Ref.{now}
 use borrow.Author.Needs.{needs}
-use Rattle.asm.specs.Assemble.{answered}
+use Rattle.asm.specs.Assemble.{reported}
 use Rattle.seamkettle.proofs.TextLaws.{own-lent, own-length, own-fits, assembled-answer, assembled-fits, assembled-bytes}
 use Rattle.seamkettle.proofs.texts.assemble_bytes.Statement.{statement}
 use Rattle.seamkettle.proofs.texts.assemble_bytes.Tie as tie
@@ -75,7 +75,7 @@ returns c =
     let a = c .before .before .before .before .before .before .before .before .before .before .before .assemble-words in
     let w = c .before .before .before .before .before .before .write-words in
     let z = c .before .before .clear-bytes in
-    let p = answered (a .result) in (
+    let p = reported (a .result) in (
       assembled-answer strict text words own (n .result) (n .ensures) (s .pre .0) p (a .ensures .0),
       (
         assembled-fits strict text words own (n .result) (n .ensures) (s .pre .0) p (a .ensures .0),

@@ -4,7 +4,7 @@ use mathlib.Core.Bool.{not, true, false}
 use denote.Ref.{now}
 use lib.Dec.{eqb}
 use borrow.Author.Needs.{needs}
-use Rattle.asm.specs.Assemble.{answered}
+use Rattle.asm.specs.Assemble.{reported}
 use Rattle.seamkettle.specs.Calls.{even}
 use Rattle.seamkettle.proofs.TextLaws.{even-yes, even-no, odd-number, odd-words, even-number, even-words}
 use Rattle.seamkettle.proofs.texts.sk_assemble.Statement.{statement}
@@ -38,7 +38,7 @@ returns-2 c =
     let q = c .before .before .before .before .assemble-bytes in
     let e : even (now (s .words)) ≡ true = even-yes (now (s .words)) (c .before .before .before .before .before .before .before .if1 .left) in
     let strict = not (eqb (s .strict) 0) in (
-      c .of-assembly .ensures ∙ even-number strict (now (s .text)) (now (s .words)) e (answered (q .result)) (q .ensures .0),
+      c .of-assembly .ensures ∙ even-number strict (now (s .text)) (now (s .words)) e (reported (q .result)) (q .ensures .0),
       even-words strict (now (s .text)) (now (s .words)) e _ (q .ensures .1 .1),
     )
 
