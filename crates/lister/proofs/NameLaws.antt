@@ -7,7 +7,11 @@ use Rattle.instruction.specs.declared.ArithmeticOp.the-variants as seven
 use Rattle.instruction.specs.declared.CompareOp.the-variants.{Eq, NotEq, Less, LessEq, Greater, GreaterEq}
 use Rattle.instruction.specs.declared.Instruction.{Instruction}
 use Rattle.instruction.specs.declared.Instruction.the-variants.{Noop, Mov, MovShift, Arith, ArithRegReg, LdrStr, LdbStb, Cpy, Jmp, CondJmp, Cmp, CallRet}
-use Rattle.printer.specs.Text.{text, arithName, arithmeticName, compareName, shiftName, wordName, byteName, callText, one, pair, three, shifted, addressed}
+use Rattle.base.specs.Told.{is}
+use Rattle.instruction.specs.declared.Register.{Register}
+use Rattle.instruction.specs.declared.Register.the-variants.{A, B, C, M, SP, PC, BP, FLAGS}
+use Rattle.parser.specs.Operands.{registerNames, register}
+use Rattle.printer.specs.Text.{text, registerName, arithName, arithmeticName, compareName, shiftName, wordName, byteName, callText, one, pair, three, shifted, addressed}
 use Rattle.text.specs.Parts.{isBlank}
 use Rattle.text.specs.Tokens.{tokenAt}
 use Rattle.mnemonics.specs.Mnemonics.{rows, upper, kindOf}
@@ -45,3 +49,15 @@ printed-name (Cmp r o Greater) = refl
 printed-name (Cmp r o GreaterEq) = refl
 printed-name (CallRet true a) = refl
 printed-name (CallRet false a) = refl
+
+-- and so are the registers' names the parser's
+pub printed-register : (r : Register) → register (registerName r) ≡ is r
+unfolding register registerNames registerName
+printed-register A = refl
+printed-register B = refl
+printed-register C = refl
+printed-register M = refl
+printed-register SP = refl
+printed-register PC = refl
+printed-register BP = refl
+printed-register FLAGS = refl

@@ -9,7 +9,7 @@ use Rattle.base.specs.Choice.{cond}
 use Rattle.instruction.specs.declared.ArithOp.the-variants as four
 use Rattle.instruction.specs.declared.ArithmeticOp.the-variants as seven
 use Rattle.instruction.specs.declared.CompareOp.the-variants.{Eq, NotEq, Less, LessEq, Greater, GreaterEq}
-use Rattle.mnemonics.specs.Tables.{padded, firstOf}
+use Rattle.mnemonics.specs.Tables.{padded, firstRow}
 use Rattle.mnemonics.specs.declared.Kind.{Kind}
 use Rattle.mnemonics.specs.declared.Kind.the-variants.{Unknown, Dbg, Mov, MovShift, Copy, Arith, ArithRegReg, Transfer, Jump, Compare, Ret, Call}
 use Rattle.mnemonics.specs.declared.Mnemonic.{Mnemonic}
@@ -62,7 +62,7 @@ upper b = cond (leb 97 b && leb b 122) (b - 32) b
 
 -- the kind of the first row with this name
 abbrev pub kindIn : List Mnemonic → List ℕ → Kind
-kindIn ms name = firstOf (λ (m : Mnemonic). same name (nameOf m)) (λ (m : Mnemonic). m .kind) Unknown ms
+kindIn ms name = firstRow (λ (m : Mnemonic). same name (nameOf m)) (λ (m : Mnemonic). m .kind) Unknown ms
 
 unfoldable pub kindOf : List ℕ → Kind
 kindOf token = kindIn rows (map upper token)

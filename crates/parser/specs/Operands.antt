@@ -11,7 +11,7 @@ use Rattle.instruction.specs.declared.Operand.{Operand}
 use Rattle.instruction.specs.declared.Operand.the-variants.{Reg, Imm}
 use Rattle.instruction.specs.declared.Register.{Register}
 use Rattle.instruction.specs.declared.Register.the-variants.{A, B, C, M, SP, PC, BP, FLAGS}
-use Rattle.mnemonics.specs.Tables.{padded, firstOf}
+use Rattle.mnemonics.specs.Tables.{padded, firstRow}
 use Rattle.text.specs.Immediates.{immediate}
 use Rattle.text.specs.Parts.{equals, dropFront, dropEnd}
 use Rattle.parser.specs.declared.names.RegisterName.{RegisterName}
@@ -75,7 +75,7 @@ abbrev pub called : List ℕ → RegisterName → Bool
 called t r = same t (take (r .length) (r .name))
 
 abbrev pub registerIn : List RegisterName → List ℕ → Told Register
-registerIn rs t = firstOf (called t) (λ (r : RegisterName). is (r .register)) (no 20) rs
+registerIn rs t = firstRow (called t) (λ (r : RegisterName). is (r .register)) (no 20) rs
 
 -- registers are exact, else 20
 unfoldable pub register : List ℕ → Told Register

@@ -90,12 +90,12 @@ module _ (s : State) (b : Lent) (j : List ℕ) (start size a n : ℕ) (p : a ≡
   -- a range that ends past 65,535 is as good as another
   narrow-read : (room : ℕ) → readOut s b j a n room ≡ readOut s b j start size room
   narrow-read room =
-      narrowed start size p q (λ (x y : ℕ). readOut s b j x y room) (λ h. read-far s b j 65535 65535 start size room (omega arith) h)
+      narrowed start size p q (λ (x y : ℕ). readOut s b j x y room) (λ h. read-far s b j 65535 65535 start size (omega arith) h room)
 
   narrow-buffer : (buffer : List ℕ) → readOutBuffer s b j a n buffer ≡ readOutBuffer s b j start size buffer
   narrow-buffer buffer =
       narrowed start size p q (λ (x y : ℕ). readOutBuffer s b j x y buffer)
-      (λ h. read-far-buffer s b j 65535 65535 start size buffer (omega arith) h)
+      (λ h. read-far-buffer s b j 65535 65535 start size (omega arith) h buffer)
 
   pub read-fits : (room : ℕ) (k : Counted) → k ≡ readOut s b j a n room → k .count ≤ 281474976710655
   read-fits room k e =
