@@ -1,9 +1,7 @@
 -- Instructions that fit come back from their words: by the round trip of the instructions, one after the other. Assumes nothing.
-use Prim.Native.Nat.{ℕ}
 use mathlib.Core.Path.{_≡_, refl}
 use mathlib.Core.Bool.{Bool, true, false, _&&_}
 use mathlib.Core.List.{List, [], _∷_, map}
-use native.Mathlib.Omega.{arith}
 use Rattle.base.proofs.Tests.{clash}
 use Rattle.base.specs.Told.{is}
 use Rattle.instruction.specs.declared.Instruction.{Instruction}

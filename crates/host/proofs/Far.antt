@@ -3,18 +3,20 @@
 use Prim.Native.Nat.{ℕ, _+_, _<_, _≤_}
 use mathlib.Core.Path.{_≡_, refl, sym, _∙_}
 use mathlib.Core.Bool.{Bool, true, false, not, and-false}
-use mathlib.Core.List.{List, _∷_}
+use mathlib.Core.List.{List}
 use lib.ListN.{length}
 use native.Mathlib.Omega.{arith}
-use borrow.Author.Tests.{lt-ltb, lt-leb, ltb-false}
+use lib.Dec.{eqb}
 use Rattle.base.specs.Choice.{cond}
-use Rattle.base.specs.Order.{_when_}
-use Rattle.base.proofs.OrderLaws.{passed}
+use Rattle.base.specs.Order.{firstOf}
+use Rattle.base.proofs.Tests.{clash}
 use Rattle.map.specs.Entries as map
+use Rattle.map.proofs.Orders.{region-far, device-far}
 use Rattle.memory.specs.Bytes.{Lent}
-use Rattle.memory.specs.Blocks.{readOrder, counting, copying}
-use Rattle.memory.specs.Program as memory
+use Rattle.memory.specs.Blocks.{numbered, readOrder}
 use Rattle.memory.proofs.Copies.{counting-most}
+use Rattle.memory.proofs.Orders as memory-orders
+use Rattle.memory.proofs.Orders.{read-near, counting-none, copying-none, long-begins}
 use Rattle.journal.specs.States.{valid}
 use Rattle.journal.specs.declared.State.{State}
 use Rattle.host.specs.Host.{protectNumber, protectState, registerNumber, registerState, loadNumber, begins, loadState, loadBytes, readNumber, readOut, readOutBuffer}
@@ -34,8 +36,8 @@ module _ (s : State) (dev journal : List ℕ) where
   -- ---- protect
 
   protect-12 : (start len : ℕ) → 65535 < start + len → protectNumber s dev journal start len ≡ cond (valid s dev journal) 12 1
-  unfolding protectNumber map.protectOrder
-  protect-12 start len h = rw (lt-ltb 65535 (start + len) h) (second-given 12 (valid s dev journal))
+  unfolding protectNumber
+  protect-12 start len h = rw (region-far (s .machine .map) (map.region start len) h) (second-given 12 (valid s dev journal))
 
   protect-same : (start len : ℕ) → 65535 < start + len → protectState s dev journal start len ≡ s
   protect-same start len h =
@@ -50,8 +52,9 @@ module _ (s : State) (dev journal : List ℕ) where
   -- ---- device
 
   register-12 : (start size : ℕ) → 65535 < start + size → registerNumber s dev journal start size ≡ cond (valid s dev journal) 12 1
-  unfolding registerNumber map.deviceOrder
-  register-12 start size h = rw (lt-ltb 65535 (start + size) h) (second-given 12 (valid s dev journal))
+  unfolding registerNumber
+  register-12 start size h =
+      rw (device-far (s .machine .map) (length dev) (map.device start (start + size)) h) (second-given 12 (valid s dev journal))
 
   register-same : (start size : ℕ) → 65535 < start + size → registerState s dev journal start size ≡ s
   register-same start size h =
@@ -68,48 +71,47 @@ module _ (s : State) (b : Lent) (journal : List ℕ) where
   -- ---- reading memory out
 
   read-12 : (start size room : ℕ) → 65535 < start + size → readNumber s b journal start size room ≡ cond (valid s (b .dev) journal) 12 1
-  unfolding readNumber readOrder
-  read-12 start size room h = rw (lt-ltb 65535 (start + size) h) (second-given 12 (valid s (b .dev) journal))
+  unfolding readNumber
+  read-12 start size room h = rw (memory-orders.read-far start size room h) (second-given 12 (valid s (b .dev) journal))
 
-  -- a refusal reads nothing, wherever it was to read
-  counting-far : (start size start' size' : ℕ) (t : Bool)
-      → counting (s .machine .map) b start size (cond t 12 1) ≡ counting (s .machine .map) b start' size' (cond t 12 1)
-  unfolding counting
-  counting-far start size start' size' true = refl
-  counting-far start size start' size' false = refl
+  -- which reads nothing
+  read-none : (start size room : ℕ) → 65535 < start + size → readOut s b journal start size room ≡ numbered (cond (valid s (b .dev) journal) 12 1) 0
+  unfolding readOut
+  read-none start size room h =
+      let t = valid s (b .dev) journal in
+      rw (read-12 start size room h) (counting-none (s .machine .map) b start size (cond t 12 1) (never t (cond t 12 1) refl))
 
-  copying-far : (start size start' size' : ℕ) (t : Bool) (buffer : List ℕ)
-      → copying (s .machine .map) b start size (cond t 12 1) buffer ≡ copying (s .machine .map) b start' size' (cond t 12 1) buffer
-  unfolding copying
-  copying-far start size start' size' true buffer = refl
-  copying-far start size start' size' false buffer = refl
+  copies-none : (start size : ℕ) (buffer : List ℕ) → 65535 < start + size → readOutBuffer s b journal start size buffer ≡ buffer
+  unfolding readOutBuffer
+  copies-none start size buffer h =
+      let t = valid s (b .dev) journal in
+      rw (read-12 start size (length buffer) h) (copying-none (s .machine .map) b start size (cond t 12 1) (never t (cond t 12 1) refl) buffer)
 
   module _ (start size start' size' : ℕ) (h : 65535 < start + size) (h' : 65535 < start' + size') where
     pub read-far : (room : ℕ) → readOut s b journal start size room ≡ readOut s b journal start' size' room
-    unfolding readOut
-    read-far room = rw (read-12 start size room h, read-12 start' size' room h') (counting-far start size start' size' (valid s (b .dev) journal))
+    read-far room = read-none start size room h ∙ sym (read-none start' size' room h')
 
     pub read-far-buffer : (buffer : List ℕ) → readOutBuffer s b journal start size buffer ≡ readOutBuffer s b journal start' size' buffer
-    unfolding readOutBuffer
-    read-far-buffer buffer =
-        rw (read-12 start size (length buffer) h, read-12 start' size' (length buffer) h')
-        (copying-far start size start' size' (valid s (b .dev) journal) buffer)
+    read-far-buffer buffer = copies-none start size buffer h ∙ sym (copies-none start' size' buffer h')
 
   pub read-count : (start size room : ℕ) → readOut s b journal start size room .count ≤ 65535
-  unfolding readOut readNumber readOrder
+  unfolding readOut readNumber
   read-count start size room =
-      counting-most (s .machine .map) b start size (readNumber s b journal start size room)
-      (λ a. ltb-false 65535 (start + size) (passed (1 when not (valid s (b .dev) journal) ∷ readOrder start size room) a .1 .0))
+      counting-most (s .machine .map) b start size (readNumber s b journal start size room) (λ a. near (valid s (b .dev) journal) a)
+    where
+      near : (t : Bool) → eqb (cond (not t) 1 (firstOf (readOrder start size room))) 0 ≡ true → start + size ≤ 65535
+      near true a = read-near start size room a
+      near false a = clash a
 
   -- ---- load
 
   load-16 : (program : List ℕ) → 32768 < length program → loadNumber s b journal program ≡ cond (valid s (b .dev) journal) 16 1
-  unfolding loadNumber memory.loadOrder
-  load-16 program h = rw (lt-ltb 32768 (length program) h) (second-given 16 (valid s (b .dev) journal))
+  unfolding loadNumber
+  load-16 program h = rw (memory-orders.load-long (s .machine .map) b program h) (second-given 16 (valid s (b .dev) journal))
 
   load-none : (program : List ℕ) → 32768 < length program → begins s b journal program ≡ false
-  unfolding begins memory.begins
-  load-none program h = rw (lt-leb (length program) 32768 h) (and-false (valid s (b .dev) journal))
+  unfolding begins
+  load-none program h = rw (long-begins (s .machine .map) b program h) (and-false (valid s (b .dev) journal))
 
   pub load-long : (program program' : List ℕ) → 32768 < length program → 32768 < length program'
       → (loadNumber s b journal program ≡ loadNumber s b journal program')

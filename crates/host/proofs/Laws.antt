@@ -1,7 +1,7 @@
 -- What the crates above may use: a refusal changes nothing but what a load keeps, and under each entry, whatever the
 -- answer, tables keep their eight entries and a valid state stays valid. Assumes nothing.
 use Prim.Native.Nat.{ℕ, _+_}
-use mathlib.Core.Path.{_≡_, refl, sym, ap, _∙_}
+use mathlib.Core.Path.{_≡_, refl, ap, _∙_}
 use mathlib.Core.Bool.{Bool, true, false}
 use mathlib.Core.List.{List}
 use native.Mathlib.Omega.{arith}
@@ -12,6 +12,7 @@ use Rattle.base.specs.Choice.{cond}
 use Rattle.map.specs.Entries as map
 use Rattle.map.specs.Valid as tables
 use Rattle.map.proofs.KeptLaws.{Eight, eight-region, eight-device, region-kept, device-kept}
+use Rattle.map.proofs.Orders.{region-order, device-order}
 use Rattle.memory.specs.Bytes.{Lent}
 use Rattle.memory.specs.Program as memory
 use Rattle.memory.proofs.Laws.{SameLengths, same-lengths}
@@ -135,18 +136,18 @@ module _ (s : State) (dev journal : List ℕ) (e : Eight (s .machine .map)) (v :
       (λ a. rw (register-tables (s .machine) number value) (tables-valid s dev journal v))
 
   pub protect-valid : (start len : ℕ) → valid (protectState s dev journal start len) dev journal ≡ true
-  unfolding protectState protectNumber map.regionNumber
+  unfolding protectState protectNumber
   protect-valid start len =
       let r = map.region start len in
       settled-valid (protectNumber s dev journal start len) (withMap (s .machine) (map.withRegion (s .machine .map) r))
-      (λ a. region-kept (s .machine .map) e dev (tables-valid s dev journal v) r (rw v at a))
+      (λ a. region-kept (s .machine .map) e dev (tables-valid s dev journal v) r (rw (region-order (s .machine .map) r) (rw v at a)))
 
   pub register-valid : (start size : ℕ) → valid (registerState s dev journal start size) dev journal ≡ true
-  unfolding registerState registerNumber map.deviceNumber
+  unfolding registerState registerNumber
   register-valid start size =
       let d = map.device start (start + size) in
       settled-valid (registerNumber s dev journal start size) (withMap (s .machine) (map.withDevice (s .machine .map) d))
-      (λ a. device-kept (s .machine .map) e dev (tables-valid s dev journal v) d (omega arith) (rw v at a))
+      (λ a. device-kept (s .machine .map) e dev (tables-valid s dev journal v) d (omega arith) (rw (device-order (s .machine .map) (length dev) d) (rw v at a)))
 
 module _ (s : State) (b : Lent) (journal program : List ℕ) (e : Eight (s .machine .map)) (v : valid s (b .dev) journal ≡ true) where
   pub load-valid : valid (loadState s b journal program) (loadBytes s b journal program .dev) journal ≡ true

@@ -1,5 +1,5 @@
 -- Which row of the mnemonic table the printed name of an instruction finds: its own. NOOP is no row's name.
-use mathlib.Core.Bool.{Bool, true, false}
+use mathlib.Core.Bool.{true, false}
 use Rattle.instruction.specs.declared.Instruction.{Instruction}
 use Rattle.instruction.specs.declared.Instruction.the-variants.{Noop, Mov, MovShift, Arith, ArithRegReg, LdrStr, LdbStb, Cpy, Jmp, CondJmp, Cmp, CallRet}
 use Rattle.mnemonics.specs.declared.Kind.{Kind}

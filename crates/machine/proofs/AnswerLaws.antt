@@ -1,5 +1,5 @@
 -- Two answers of a step, two plans, and two answers with the machine after them, that are told alike are one: a refusal by its number. Assumes nothing.
-use mathlib.Core.Path.{_≡_, refl, sym, ap, _∙_}
+use mathlib.Core.Path.{_≡_, refl, sym, ap}
 use Rattle.base.specs.Numbers.{numberOf, answerNumber}
 use Rattle.base.specs.Told.{Told, is, no}
 use Rattle.base.specs.declared.refusals.Refusal.{Refusal}

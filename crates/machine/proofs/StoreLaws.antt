@@ -1,6 +1,6 @@
 -- What a step stores, in 01's words: an accepted step leaves the bytes of its instruction's own stores and no others, since what
 -- memory has decided and then makes is its store. Assumes nothing.
-use mathlib.Core.Path.{_≡_, refl, sym, ap, _∙_, subst}
+use mathlib.Core.Path.{_≡_, sym, ap, _∙_, subst}
 use mathlib.Core.Bool.{true, false}
 use Prim.Native.Nat.{ℕ}
 use Rattle.base.specs.Told.{is}
@@ -11,7 +11,7 @@ use Rattle.instruction.specs.declared.Instruction.{Instruction}
 use Rattle.map.specs.declared.Map.{Map}
 use Rattle.memory.specs.Bytes.{Lent}
 use Rattle.memory.specs.Words.{made, aWord, readWord, wordStored, byteStored, byteDecision, wordDecision}
-use Rattle.memory.proofs.Decisions.{decision-makes, byte-makes, nothing-made}
+use Rattle.memory.proofs.Decisions.{decision-makes, byte-makes, nothing-made, byte-outcome, word-outcome}
 use Rattle.machine.specs.Answers.{Reply}
 use Rattle.machine.specs.Registers.{get, flag}
 use Rattle.machine.specs.Acts.{ended, storing, wordAt, act}
@@ -27,12 +27,12 @@ use Rattle.machine.proofs.Laws.{valid-step}
 -- ---- how a store ends is what becomes of memory's own
 
 pub str-ends : (m : Map) (b : Lent) (s : Registers) (r : Register) (a : ℕ) → wordAt m b s r true a ≡ ended s (wordDecision m b a (get s r) .changes) (wordStored m b a)
-unfolding wordAt storing wordDecision
-str-ends m b s r a = refl
+unfolding wordAt storing
+str-ends m b s r a = ap (ended s (wordDecision m b a (get s r) .changes)) (word-outcome m b a (get s r))
 
 pub byte-ends : (m : Map) (b : Lent) (s : Registers) (a v : ℕ) → storing s (byteDecision m b a v) ≡ ended s (byteDecision m b a v .changes) (is (byteStored m b a))
-unfolding storing byteDecision
-byte-ends m b s a v = refl
+unfolding storing
+byte-ends m b s a v = ap (ended s (byteDecision m b a v .changes)) (byte-outcome m b a v)
 
 -- ---- what is decided and then made is the store
 

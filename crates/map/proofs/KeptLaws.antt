@@ -1,25 +1,23 @@
 -- Tables keep their eight entries and stay valid under protect and a new device: the new entry is right and meets no other. Assumes nothing.
 use mathlib.Core.Path.{_≡_, refl, _∙_}
-use mathlib.Core.Bool.{Bool, true, false, not, or-comm, and-comm}
+use mathlib.Core.Bool.{true, false, not, or-comm, and-comm}
 use mathlib.Core.List.{List, [], _∷_, _++_}
 use Prim.Native.Nat.{ℕ, _+_, _≤_, _<_}
 use native.Mathlib.Omega.{arith}
-use lib.Dec.{ltb, leb, eqb}
+use lib.Dec.{leb, eqb}
 use lib.ListN.{length, take, drop, length-set}
-use borrow.Author.Tests.{leb-true, leb-false, ltb-false, le-leb, not-true}
-use Rattle.base.specs.Choice.{cond}
+use borrow.Author.Tests.{leb-false, ltb-false, le-leb, not-true}
 use Rattle.map.specs.Tables.{any, sound}
 use Rattle.map.specs.Regions.{regionCovers, regionsOverlap, regionInRange, regionIsSet, usedRegions, spareRegions}
 use Rattle.map.specs.Devices.{deviceSize, devicesOverlap, deviceInRange, deviceIsSet, usedDevices, spareDevices, total}
 use Rattle.map.specs.Valid.{validRegions, validDevices, valid}
-use Rattle.map.specs.Entries.{region, device, protectOrder, withRegion, regionNumber, regionMap, protectMap, deviceOrder, withDevice, deviceNumber, deviceMap, registerMap}
+use Rattle.map.specs.Entries.{region, device, protectOrder, withRegion, regionNumber, deviceOrder, withDevice, deviceNumber}
 use Rattle.map.specs.declared.Region.{Region}
 use Rattle.map.specs.declared.Device.{Device}
 use Rattle.map.specs.declared.Map.{Map}
 use Rattle.base.proofs.OrderLaws.{passed}
 use Rattle.base.proofs.Tests.{second, third}
 use Rattle.map.proofs.SoundLaws.{sound-more, used-more, spare-fewer}
-use Rattle.map.proofs.Entries.{protect-valid, register-valid}
 use Rattle.map.proofs.Laws.{valid-regions, valid-devices, valid-room}
 
 -- both tables have eight entries, as the code's arrays do

@@ -7,3 +7,4 @@ pub mod SoundLaws
 pub mod Laws
 pub mod KeptLaws
 pub mod AnswerLaws
+pub mod Orders

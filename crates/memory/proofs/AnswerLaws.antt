@@ -5,7 +5,6 @@ use native.Mathlib.Omega.{arith}
 use Rattle.base.specs.Numbers.{numberOf}
 use Rattle.base.specs.declared.refusals.Refusal.{Refusal}
 use Rattle.base.specs.declared.refusals.Answer.the-variants.{Accepted, Refused}
-use Rattle.base.specs.Told.{Told, is, no}
 use Rattle.base.proofs.Laws.{answer-one, number-one}
 use Rattle.base.proofs.ToldLaws.{is-not-no, is-one, no-one}
 use Rattle.memory.specs.Blocks.{Counted, counted}

@@ -16,6 +16,7 @@ use Rattle.base.proofs.Tests.{clash}
 use Rattle.map.proofs.PlaceLaws.{SameByte, Within}
 use Rattle.map.proofs.Laws.{linear-somewhere, bank-somewhere, nowhere-not}
 use Rattle.memory.specs.Bytes.{Lent, lent, readIn, get, put}
+use Rattle.memory.specs.declared.Read.{Read}
 use Rattle.memory.specs.declared.Read.the-variants.{Byte, Unmapped}
 
 -- ---- one buffer
@@ -95,6 +96,18 @@ unfolding get readIn
 get-some (Linear i) s w h = (getD (s .mem) i 0, rw (lt-ltb i (length (s .mem)) (omega (arith, w))))
 get-some (Bank n o i) s w h = (getD (s .dev) i 0, rw (lt-ltb i (length (s .dev)) w))
 get-some Nowhere s w h = clash (sym nowhere-not ∙ h)
+
+-- whether a byte was found
+abbrev pub found : Read → Bool
+found (Byte v p) = true
+found Unmapped = false
+
+-- it is where there is a place
+pub get-found : (q : Place) (s : Lent) → Within q (length (s .mem)) (length (s .dev)) → found (get q s) ≡ somewhere q
+unfolding get readIn
+get-found (Linear i) s w = rw (lt-ltb i (length (s .mem)) (omega (arith, w))) (sym (linear-somewhere i))
+get-found (Bank n o i) s w = rw (lt-ltb i (length (s .dev)) w) (sym (bank-somewhere n o i))
+get-found Nowhere s w = sym nowhere-not
 
 pub get-linear : (s : Lent) (i : ℕ) → i < length (s .mem) → get (Linear i) s ≡ Byte (getD (s .mem) i 0) (Linear i)
 unfolding get readIn

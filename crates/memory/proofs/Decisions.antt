@@ -5,6 +5,7 @@ use Prim.Native.Nat.{ℕ, _+_}
 use native.Mathlib.Omega.{arith}
 use Rattle.base.specs.Addresses.{secondAddress}
 use Rattle.base.specs.Choice.{cond}
+use Rattle.base.specs.Told.{is}
 use Rattle.base.specs.Words.{lowOf, highOf}
 use Rattle.base.specs.declared.addresses.Reached.{Reached}
 use Rattle.base.specs.declared.addresses.Reached.the-variants.{At, Past}
@@ -13,7 +14,7 @@ use Rattle.base.proofs.ToldLaws.{Numbered}
 use Rattle.map.specs.declared.Map.{Map}
 use Rattle.map.specs.declared.Place.{Place}
 use Rattle.memory.specs.Bytes.{Lent, get, put, targetIn, readByte, takes, storeByte}
-use Rattle.memory.specs.Words.{storeBoth, storeWord, changeAt, byteDecision, highChange, wordChanges, wordDecision, made}
+use Rattle.memory.specs.Words.{byteStored, wordStored, storeBoth, storeWord, changeAt, byteDecision, highChange, wordChanges, wordDecision, made}
 use Rattle.memory.specs.declared.Change.{Change}
 use Rattle.memory.specs.declared.Changes.{Changes}
 use Rattle.memory.specs.declared.Changes.the-variants.{Nothing, One, Two}
@@ -67,9 +68,17 @@ module _ (m : Map) (s : Lent) (a : ℕ) where
       go true = both-made (secondAddress a) w
       go false = nothing-made s
 
--- ---- it is refused with 3 alone
+-- ---- what becomes of it: 01's sentence, and it is refused with 3 alone
 
 module _ (m : Map) (s : Lent) (a : ℕ) where
+  pub byte-outcome : (v : ℕ) → byteDecision m s a v .outcome ≡ is (byteStored m s a)
+  unfolding byteDecision
+  byte-outcome v = refl
+
+  pub word-outcome : (w : ℕ) → wordDecision m s a w .outcome ≡ wordStored m s a
+  unfolding wordDecision
+  word-outcome w = refl
+
   pub byte-numbered : (v : ℕ) → Numbered 3 3 (byteDecision m s a v .outcome)
   unfolding byteDecision
   byte-numbered v = tt

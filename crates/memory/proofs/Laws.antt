@@ -1,23 +1,19 @@
 -- What the crates above may use of bytes and stores, without opening the definitions: it all follows from two addresses
 -- having two bytes and a store changing no length. Assumes nothing.
 use mathlib.Core.Path.{_≡_, refl, sym, ap, _∙_}
-use mathlib.Core.Bool.{Bool, true, false, not, _&&_, _||_}
+use mathlib.Core.Bool.{Bool, true, false}
 use Prim.Native.Nat.{ℕ, _<_}
-use lib.Dec.{ltb}
 use lib.ListN.{length, getD, drop}
-use Rattle.map.specs.Tables.{any}
-use Rattle.map.specs.Regions.{protected}
-use Rattle.map.specs.Devices.{deviceCovers, usedDevices}
-use Rattle.map.specs.Places.{place, succeeds, somewhere}
+use Rattle.map.specs.Places.{place, mapped, succeeds, somewhere}
 use Rattle.map.specs.Valid.{valid}
 use Rattle.map.specs.declared.Map.{Map}
 use Rattle.map.specs.declared.Place.{Place}
 use Rattle.map.specs.declared.Place.the-variants.{Linear}
 use Rattle.map.proofs.PlaceLaws.{SameByte, Within}
-use Rattle.map.proofs.Laws.{place-within, target-within, place-one, target-place, takes-rule, valid-length}
+use Rattle.map.proofs.Laws.{place-within, target-within, place-one, target-place, mapped-rule, takes-rule, valid-length}
 use Rattle.memory.specs.Bytes.{Lent, get, put, placeIn, targetIn, readByte, takes, storeByte}
 use Rattle.memory.specs.declared.Read.the-variants.{Byte}
-use Rattle.memory.proofs.ByteLaws.{put-mem, put-dev, get-put, get-put-other, put-back, put-none, get-some, get-linear, put-far}
+use Rattle.memory.proofs.ByteLaws.{put-mem, put-dev, get-put, get-put-other, put-back, put-none, get-some, get-linear, put-far, found, get-found}
 
 -- the same numbers of bytes are lent
 pub record SameLengths (s t : Lent) : Type 0 where
@@ -66,6 +62,13 @@ placed-one m s a b q = place-one m (length (s .mem)) (length (s .dev)) a b q
 pub read-placed : (m : Map) (s : Lent) (a : ℕ) → place m (length (s .mem)) (length (s .dev)) a ≡ Linear a → a < length (s .mem) → readByte m s a ≡ Byte (getD (s .mem) a 0) (Linear a)
 unfolding readByte placeIn
 read-placed m s a e h = rw e (get-linear s a h)
+
+-- a byte is read exactly where 01 says that the address is mapped
+pub read-mapped : (m : Map) (s : Lent) (a : ℕ) → valid m (s .dev) ≡ true → found (readByte m s a) ≡ mapped m (length (s .mem)) a
+unfolding readByte placeIn
+read-mapped m s a v =
+    get-found (place m (length (s .mem)) (length (s .dev)) a) s (place-within m (length (s .mem)) (length (s .dev)) a)
+    ∙ mapped-rule m (s .dev) v (length (s .mem)) a
 
 -- ---- stores
 

@@ -6,3 +6,4 @@ pub mod WordLaws
 pub mod Decisions
 pub mod ProgramLaws
 pub mod AnswerLaws
+pub mod Orders

@@ -1,5 +1,5 @@
 -- What the crates above may use of a load: lengths stay, valid tables stay valid, at its end only 13 is left, and its answer says whether it began. Assumes nothing.
-use mathlib.Core.Path.{_≡_, refl, sym, ap, _∙_}
+use mathlib.Core.Path.{_≡_, refl, _∙_}
 use mathlib.Core.Bool.{Bool, true, false, not, _&&_}
 use mathlib.Core.List.{List, [], _∷_}
 use Prim.Native.Nat.{ℕ, _+_}

@@ -14,6 +14,7 @@ use Rattle.base.specs.Words.{doubled}
 use Rattle.map.specs.Valid.{valid}
 use Rattle.map.specs.Entries.{region, withRegion, regionNumber, regionMap}
 use Rattle.map.proofs.Laws.{region-last}
+use Rattle.map.proofs.Orders.{region-map}
 use Rattle.map.specs.declared.Map.{Map}
 use Rattle.memory.specs.Bytes.{Lent}
 use Rattle.memory.specs.Words.{toldStore, wordStored, storeWord, isDone}
@@ -74,9 +75,9 @@ module _ (m : Map) (s : Lent) (program : List ℕ) where
         region-number g = region-last m (region 0 (length program)) (omega arith) f ∙ rw (e, le-ltb _ _ h, lt-leb _ _ f, g)
 
         pub load-on : storeWords m s 0 program .all ≡ true → Load m s program (regionNumber m (region 0 (length program))) (regionMap m (region 0 (length program))) (storeWords m s 0 program .bytes)
-        unfolding loadMap loadBytes begins regionMap
+        unfolding loadMap loadBytes begins
         load-on g = record {
           number = region-number g;
-          map = ap (λ (n : ℕ). cond (eqb n 0) (withRegion m (region 0 (length program))) m) (region-number g);
+          map = region-map m (region 0 (length program)) ∙ ap (λ (n : ℕ). cond (eqb n 0) (withRegion m (region 0 (length program))) m) (region-number g);
           bytes = rw (e, le-leb _ _ h, lt-ltb _ _ f);
         }

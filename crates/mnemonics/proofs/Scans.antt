@@ -15,7 +15,7 @@ use Rattle.base.proofs.Tests.{and-left, and-right}
 use Rattle.mnemonics.specs.declared.Mnemonic.{Mnemonic}
 use Rattle.mnemonics.specs.declared.Kind.{Kind}
 use Rattle.mnemonics.specs.declared.Kind.the-variants.{Unknown}
-use Rattle.mnemonics.specs.Mnemonics.{rows, nameOf, upper}
+use Rattle.mnemonics.specs.Mnemonics.{rows, upper}
 use Rattle.mnemonics.specs.Tables.{firstRow}
 
 -- ---- a token t and a name, byte after byte

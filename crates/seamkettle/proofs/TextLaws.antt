@@ -7,7 +7,7 @@ use mathlib.Core.Bool.{Bool, true, false}
 use mathlib.Core.List.{List, _++_}
 use mathlib.Core.Path.{_∙_, _≡_, refl, sym, ap}
 use native.Mathlib.Omega.{arith}
-use borrow.Author.Tests.{lt-ltb, leb-true, leb-false, eqb-true, eq-eqb, ne-eqb}
+use borrow.Author.Tests.{leb-true, leb-false, eqb-true, eq-eqb, ne-eqb}
 use Rattle.base.specs.Told.{Told}
 use Rattle.wordbytes.specs.Words.{bytesOf}
 use Rattle.wordbytes.proofs.Laws.{length-bytes, bytes-append, bytes-zeros}
@@ -15,6 +15,7 @@ use Rattle.asm.specs.Assemble.{Outcome, accepted, refused, outcome, wordsOf, fi
 use Rattle.lister.specs.Listing.{listing, listed}
 use Rattle.numbers.specs.Answers.{listedNumber, assembledNumber, fitting}
 use Rattle.seamkettle.specs.Calls.{even, assembling, assembleNumber, assembledWords}
+use Rattle.numbers.proofs.FittingLaws.{fit-counts, fit-refusal}
 use Rattle.asm.proofs.Rooms.{outcome-room, words-most, report-most}
 use Rattle.asm.proofs.FillLaws.{filled-parts, filled-exact, filled-more}
 use Rattle.lister.proofs.Laws.{listed-fits, listed-19}
@@ -59,11 +60,10 @@ module _ (strict : Bool) (text words own : List ℕ) (n : ℕ) (e : n ≡ min (l
   assembled-answer p q = q ∙ ap (λ (k : ℕ). report (outcome strict text k 1024)) own-lent ∙ ap report room-same
 
   pub assembled-fits : (p : Report) → p ≡ report (outcome strict text (length (take n own)) 1024) → fitting p ≡ true
-  unfolding fitting
   assembled-fits (counts w t u) q =
       let m = report-most strict text (length (take n own)) 1024 w t u (sym q) in
-      rw (lt-ltb w 65536 (omega (arith, m .0)), lt-ltb t 65536 (omega (arith, m .1)), lt-ltb u 65536 (omega (arith, m .2)))
-  assembled-fits (refusal k line) q = refl
+      fit-counts w t u (omega (arith, m .0)) (omega (arith, m .1)) (omega (arith, m .2))
+  assembled-fits (refusal k line) q = fit-refusal k line
 
   module _ (last : List ℕ) (q : last ≡ filled (length (take n own)) (wordsOf (outcome strict text (length (take n own)) 1024))) where
     own-words : take n (last ++ drop n own) ≡ filled n (wordsOf (outcome strict text n 1024))

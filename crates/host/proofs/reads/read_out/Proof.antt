@@ -4,9 +4,11 @@ use mathlib.Core.Bool.{true, false}
 use denote.Ref.{now}
 use borrow.Author.Tests.{not-true, not-false}
 use Rattle.journal.specs.States.{valid}
+use Prim.Native.Nat.{ℕ}
+use native.Mathlib.Omega.{arith}
 use lib.ListN.{length}
 use Rattle.memory.specs.Bytes.{lent}
-use Rattle.memory.specs.Blocks.{counting, copying}
+use Rattle.memory.proofs.Orders.{counting-none, copying-none}
 use Rattle.host.specs.Host.{readNumber, readOut, readOutBuffer}
 use Rattle.host.proofs.Below.{read-out, read-buffer}
 use borrow.Author.Needs.{needs}
@@ -17,12 +19,16 @@ valid-requires : tie.Need-valid-requires
 valid-requires c κs = search needs
 
 returns : tie.Need-returns
-unfolding readNumber readOut readOutBuffer counting copying
+unfolding readNumber readOut readOutBuffer
 returns c =
     let s = c .before .before .before .before .before .before .args in
     let v : valid (s .s) (now (s .dev)) (now (s .journal)) ≡ false =
     sym (c .before .valid .ensures) ∙ not-true _ (c .if1 .taken) in
-    (rw v, rw v)
+    let bytes = lent (now (s .mem)) (now (s .dev)) in
+    let one : _≡_ {A = ℕ} 1 0 → ⊥ = λ e. omega arith in (
+      rw v (sym (counting-none (s .s .machine .map) bytes (s .start) (s .size) 1 one)),
+      rw v (sym (copying-none (s .s .machine .map) bytes (s .start) (s .size) 1 one (now (s .buffer)))),
+    )
 
 read-out-requires : tie.Need-read-out-requires
 read-out-requires c κs = search needs
