@@ -1,7 +1,7 @@
 -- Three properties, of answers, of registers and of what is stored, hold of every act, and so of every plan, where they hold of
 -- its parts, and what is refused is refused with 2 to 9: by cases on the twelve instructions, once for all that is to be known of
 -- them. Assumes nothing.
-use mathlib.Core.Path.{_≡_, refl}
+use mathlib.Core.Path.{_≡_, refl, subst}
 use mathlib.Core.Bool.{Bool, true, false}
 use Prim.Native.Nat.{ℕ, _≤_}
 use native.Mathlib.Omega as Omega
@@ -159,24 +159,20 @@ module _ (m : Machine) (b : Lent) (properties : Properties m) where
   byte-good : (a v : ℕ) → StoresOf (oneByte a v) → Good (storing s (byteDecision (m .map) b a v))
   byte-good a v h = storing-good (byteDecision (m .map) b a v) (byte-numbered (m .map) b a v) h
 
-  -- an act at an address, by what it stores at each
-  addressed-good : (a : Register) (shift : ℕ) (acts : ℕ → Told Act) (storing : ℕ → Storing) → ((n : ℕ) → StoresOf (storing n) → Good (acts n))
-      → StoresOf (atAddress (basePlusShift (get s a) shift) storing) → Good (addressed s a shift acts)
-  unfolding addressed atAddress
-  addressed-good a shift acts storing good = go (basePlusShift (get s a) shift)
-    where
-      go : (x : Reached) → StoresOf (atAddress x storing) → Good (addressOr 3 x >>= acts)
-      go (At n) h = good n h
-      go Past h = (omega Omega.arith, omega Omega.arith)
-
-  -- a load stores nothing, wherever it is
-  load-good : (a : Register) (shift : ℕ) (acts : ℕ → Told Act) → ((n : ℕ) → Good (acts n)) → Good (addressed s a shift acts)
+  -- an act at an address, where there is such an address
+  addressed-good : (a : Register) (shift : ℕ) (acts : ℕ → Told Act) → ((n : ℕ) → basePlusShift (get s a) shift ≡ At n → Good (acts n))
+      → Good (addressed s a shift acts)
   unfolding addressed
-  load-good a shift acts good = go (basePlusShift (get s a) shift)
+  addressed-good a shift acts good = go (basePlusShift (get s a) shift) refl
     where
-      go : (x : Reached) → Good (addressOr 3 x >>= acts)
-      go (At n) = good n
-      go Past = (omega Omega.arith, omega Omega.arith)
+      go : (x : Reached) → basePlusShift (get s a) shift ≡ x → Good (addressOr 3 x >>= acts)
+      go (At n) e = good n e
+      go Past e = (omega Omega.arith, omega Omega.arith)
+
+  -- what it stores is stored there
+  stored-there : (storing : ℕ → Storing) {x : Reached} {n : ℕ} → x ≡ At n → StoresOf (atAddress x storing) → StoresOf (storing n)
+  unfolding atAddress
+  stored-there storing e h = subst (λ (x : Reached). StoresOf (atAddress x storing)) e h
 
   str-good : (r : Register) (a : ℕ) → StoresOf (oneWord a (get s r)) → Good (wordAt (m .map) b s r true a)
   unfolding wordAt
@@ -208,10 +204,12 @@ module _ (m : Machine) (b : Lent) (properties : Properties m) where
   act-good (MovShift d amount left imm) h = (continues, one-put d (moved (get s d) amount left imm), h)
   act-good (Arith d o op) h = result-good d (kept (m .map) b s op (get s d) (operand s o)) (arithResult op (get s d) (operand s o)) (arith-numbered op (get s d) (operand s o)) (kept-stores d o op h)
   act-good (ArithRegReg d x y op) h = result-good d Nothing (arithmeticResult op (get s x) (get s y)) (arithmetic-numbered op (get s x) (get s y)) h
-  act-good (LdrStr r a true shift) h = addressed-good a shift (wordAt (m .map) b s r true) (λ n. oneWord n (get s r)) (str-good r) h
-  act-good (LdrStr r a false shift) h = load-good a shift (wordAt (m .map) b s r false) (ldr-good r h)
-  act-good (LdbStb r a true shift) h = addressed-good a shift (byteAt (m .map) b s r true) (λ n. oneByte n (lowOf (get s r))) (stb-good r) h
-  act-good (LdbStb r a false shift) h = load-good a shift (byteAt (m .map) b s r false) (ldb-good r h)
+  act-good (LdrStr r a true shift) h =
+      addressed-good a shift (wordAt (m .map) b s r true) (λ n e. str-good r n (stored-there (λ k. oneWord k (get s r)) e h))
+  act-good (LdrStr r a false shift) h = addressed-good a shift (wordAt (m .map) b s r false) (λ n e. ldr-good r h n)
+  act-good (LdbStb r a true shift) h =
+      addressed-good a shift (byteAt (m .map) b s r true) (λ n e. stb-good r n (stored-there (λ k. oneByte k (lowOf (get s r))) e h))
+  act-good (LdbStb r a false shift) h = addressed-good a shift (byteAt (m .map) b s r false) (λ n e. ldb-good r h n)
   act-good (Cpy x y) h = copied-good (get s y) (readByte (m .map) b (get s x)) h
   act-good (Jmp o) h = (one-put PC (operand s o), h)
   act-good (CondJmp o) h = cond-jmp-good o h
