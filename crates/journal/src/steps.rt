@@ -157,7 +157,7 @@ pub fn turn(
         return unmoved(g, ring, answer);
     }
     let c = p.changes;
-    let result = note(g, ring, mem, dev, c, journal, d);
+    let after = note(g, ring, mem, dev, c, journal, d);
     memory::make(c, mem, dev);
     let register = p.register;
     Turned {
@@ -165,7 +165,7 @@ pub fn turn(
         register,
         value: p.value,
         pc: p.pc,
-        ring: result,
+        ring: after,
     }
 }
 

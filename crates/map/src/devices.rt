@@ -65,7 +65,7 @@ pub fn device_meets(m: Map, from: usize, e: Device) -> bool
     false
 }
 
-// Its end is in range by its width.
+// Its end is in range by its width, so it is left to test that it does not start past it.
 fn device_in_range(d: Device) -> bool
     ensures { λ t. ⌜ t ≡ deviceInRange d ⌝ }
 {
