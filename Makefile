@@ -108,7 +108,7 @@ examples: $(EXAMPLES)
 
 example: examples
 	examples/run $(RUN) target/c/acceptance
-	[ "$$($(RUN) target/c/first)" = 'SK_STOP after 3 steps, A is 42' ]
+	[ "$$($(RUN) target/c/first)" = 'KETTLE_STOP after 3 steps, A is 42' ]
 
 # ---- installing
 

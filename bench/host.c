@@ -1,7 +1,7 @@
 /*
  * host.c: how long a host like the daemon takes for its files. A program of some hundred steps sums the first 60 bytes of a file,
  * which are lent through a device; it is assembled and loaded once, and run for each file from the same block and memory. Prints
- * seconds of processor time for 1,000 files, by sk_run and by single sk_step calls, with journals of three lengths; the least of
+ * seconds of processor time for 1,000 files, by kettle_run and by single kettle_step calls, with journals of three lengths; the least of
  * five turns.
  *
  *   cc -O2 -Iinclude bench/host.c target/staticlib/libseamkettle.a -o target/host && target/host
@@ -28,8 +28,8 @@ static const char program[] = "MOV B, #16\n"
                               "STR C, [SP #31]\n"
                               "MOV FLAGS, #1\n";
 
-static uint8_t block[SK_BLOCK_SIZE], memory[2048], devices[BYTES], journal[SK_RECORD_SIZE * SK_RECORD_MOST];
-static uint8_t block_loaded[SK_BLOCK_SIZE], memory_loaded[sizeof memory];
+static uint8_t block[KETTLE_BLOCK_SIZE], memory[2048], devices[BYTES], journal[KETTLE_RECORD_SIZE * KETTLE_RECORD_MOST];
+static uint8_t block_loaded[KETTLE_BLOCK_SIZE], memory_loaded[sizeof memory];
 static size_t journal_len;
 static uint64_t steps;
 
@@ -37,22 +37,22 @@ static uint64_t steps;
 
 static void fail(const char *what, uint64_t answer)
 {
-    fprintf(stderr, "host: %s: %u\n", what, sk_code(answer));
+    fprintf(stderr, "host: %s: %u\n", what, kettle_code(answer));
     exit(1);
 }
 
 static void set_up(size_t records)
 {
     static uint8_t words[256];
-    uint64_t answer = sk_assemble((const uint8_t *)program, sizeof program - 1, 1, words, sizeof words);
-    if (sk_code(answer))
+    uint64_t answer = kettle_assemble((const uint8_t *)program, sizeof program - 1, 1, words, sizeof words);
+    if (kettle_code(answer))
         fail("assembly", answer);
-    size_t words_len = 2 * (size_t)sk_words(answer);
-    journal_len = records * SK_RECORD_SIZE;
-    sk_fresh(block, 0);
-    if ((answer = sk_device(block, sizeof block, devices, sizeof devices, journal, journal_len, DEVICE, BYTES)) != 0)
+    size_t words_len = 2 * (size_t)kettle_words(answer);
+    journal_len = records * KETTLE_RECORD_SIZE;
+    kettle_fresh(block, 0);
+    if ((answer = kettle_device(block, sizeof block, devices, sizeof devices, journal, journal_len, DEVICE, BYTES)) != 0)
         fail("device", answer);
-    if ((answer = sk_load(MACHINE, words, words_len)) != 0)
+    if ((answer = kettle_load(MACHINE, words, words_len)) != 0)
         fail("load", answer);
     memcpy(block_loaded, block, sizeof block);
     memcpy(memory_loaded, memory, sizeof memory);
@@ -72,24 +72,24 @@ static void look_at_sum(void)
     unsigned sum = 0;
     for (unsigned i = 0; i < BYTES; i++)
         sum += devices[i];
-    if (sk_word(memory + BYTES + 31) != sum)
+    if (kettle_word(memory + BYTES + 31) != sum)
         fail("sum", sum);
 }
 
 static void by_run(void)
 {
-    uint64_t answer = sk_run(MACHINE, 100000);
-    if (sk_code(answer) != SK_STOP)
+    uint64_t answer = kettle_run(MACHINE, 100000);
+    if (kettle_code(answer) != KETTLE_STOP)
         fail("run", answer);
-    steps += sk_above(answer);
+    steps += kettle_above(answer);
 }
 
 static void by_steps(void)
 {
     uint64_t answer;
-    while ((answer = sk_step(MACHINE)) == SK_ACCEPTED)
+    while ((answer = kettle_step(MACHINE)) == KETTLE_ACCEPTED)
         steps++;
-    if (answer != SK_STOP)
+    if (answer != KETTLE_STOP)
         fail("step", answer);
 }
 
@@ -114,7 +114,7 @@ static double seconds(void (*one)(void))
 
 int main(void)
 {
-    static const size_t records[] = {0, 64, SK_RECORD_MOST};
+    static const size_t records[] = {0, 64, KETTLE_RECORD_MOST};
     printf("records  steps a file  run, s  ns a step  single steps, s  ns a step\n");
     for (unsigned i = 0; i < sizeof records / sizeof *records; i++) {
         set_up(records[i]);

@@ -46,10 +46,10 @@ enum { ALL_ACCEPTED = 0, SOME_REJECTED = 1, FAILED = 2 };
 
 /* All that a machine is. It is copied whole to start anew. */
 struct machine {
-    uint8_t block[SK_BLOCK_SIZE];
+    uint8_t block[KETTLE_BLOCK_SIZE];
     uint8_t memory[DEVICE_START];
     uint8_t devices[DEVICE_SIZE];
-    uint8_t journal[RECORDS * SK_RECORD_SIZE];
+    uint8_t journal[RECORDS * KETTLE_RECORD_SIZE];
 };
 
 /* The arguments that functions on a machine begin with: the steps, and the others, which don't look at memory. */
@@ -95,35 +95,35 @@ static int read_text(struct program *p)
 /* Lists the program, to show its instructions by. Of a text of over 65,536 bytes the listing is a refusal, which has none. */
 static void list(struct program *p)
 {
-    uint64_t answer = sk_list(p->text, p->text_len, p->listing, SK_LISTING_MOST);
+    uint64_t answer = kettle_list(p->text, p->text_len, p->listing, KETTLE_LISTING_MOST);
 
-    p->listing_len = sk_code(answer) == SK_ACCEPTED ? (size_t)sk_above(answer) : 0;
+    p->listing_len = kettle_code(answer) == KETTLE_ACCEPTED ? (size_t)kettle_above(answer) : 0;
 }
 
-/* Assembles the program into words, which must be no more than fit below the device: else this is SK_PROGRAM_FULL. */
+/* Assembles the program into words, which must be no more than fit below the device: else this is KETTLE_PROGRAM_FULL. */
 static int assemble(const struct program *p, uint8_t *words, size_t words_room, size_t *words_len)
 {
-    uint64_t answer = sk_assemble(p->text, p->text_len, 1, words, words_room);
+    uint64_t answer = kettle_assemble(p->text, p->text_len, 1, words, words_room);
 
-    if (sk_code(answer) != SK_ACCEPTED) {
-        fprintf(stderr, "%s:%llu: refused %u %s\n", p->name, (unsigned long long)sk_above(answer), sk_code(answer),
-                sk_code_name(sk_code(answer)));
+    if (kettle_code(answer) != KETTLE_ACCEPTED) {
+        fprintf(stderr, "%s:%llu: refused %u %s\n", p->name, (unsigned long long)kettle_above(answer), kettle_code(answer),
+                kettle_code_name(kettle_code(answer)));
         return FAILED;
     }
     /* A jump to a label that is nowhere goes to 0. That is accepted by the assembler, but must not be run. */
-    if (sk_open(answer) != 0) {
-        fprintf(stderr, "%s: labels that are not defined are named in %u lines\n", p->name, sk_open(answer));
+    if (kettle_open(answer) != 0) {
+        fprintf(stderr, "%s: labels that are not defined are named in %u lines\n", p->name, kettle_open(answer));
         return FAILED;
     }
-    *words_len = 2 * (size_t)sk_words(answer);
+    *words_len = 2 * (size_t)kettle_words(answer);
     return 0;
 }
 
 static int refused(const struct program *p, const char *what, uint64_t answer)
 {
-    if (sk_code(answer) == SK_ACCEPTED)
+    if (kettle_code(answer) == KETTLE_ACCEPTED)
         return 0;
-    fprintf(stderr, "%s: %s refused %u %s\n", p->name, what, sk_code(answer), sk_code_name(sk_code(answer)));
+    fprintf(stderr, "%s: %s refused %u %s\n", p->name, what, kettle_code(answer), kettle_code_name(kettle_code(answer)));
     return FAILED;
 }
 
@@ -136,16 +136,16 @@ static int prepare(struct machine *start, const struct program *p)
     if (assemble(p, words, sizeof words, &words_len) != 0)
         return FAILED;
     memset(start, 0, sizeof *start);
-    sk_fresh(start->block, 0);
-    if (refused(p, "the device was", sk_device(SETTING(start), DEVICE_START, DEVICE_SIZE)) != 0)
+    kettle_fresh(start->block, 0);
+    if (refused(p, "the device was", kettle_device(SETTING(start), DEVICE_START, DEVICE_SIZE)) != 0)
         return FAILED;
-    if (refused(p, "loading was", sk_load(STEPPING(start), words, words_len)) != 0)
+    if (refused(p, "loading was", kettle_load(STEPPING(start), words, words_len)) != 0)
         return FAILED;
     /* A load protects half of a program's bytes, as many as it has words. This protects the others; a site whose programs store
        into themselves has to leave it out. */
-    if (refused(p, "protection was", sk_protect(SETTING(start), words_len / 2, words_len / 2)) != 0)
+    if (refused(p, "protection was", kettle_protect(SETTING(start), words_len / 2, words_len / 2)) != 0)
         return FAILED;
-    return refused(p, "setting B was", sk_set_register(SETTING(start), SK_B, DEVICE_START));
+    return refused(p, "setting B was", kettle_set_register(SETTING(start), KETTLE_B, DEVICE_START));
 }
 
 /* ---- a file --------------------------------------------------------------------------------------------------------------- */
@@ -224,12 +224,12 @@ struct instruction {
 /* The instruction that PC points at. */
 static struct instruction at_pc(const struct machine *m)
 {
-    struct instruction i = { sk_register_of(m->block, SK_PC), 0, 0 };
+    struct instruction i = { kettle_register_of(m->block, KETTLE_PC), 0, 0 };
     uint8_t bytes[2] = { 0, 0 };
-    uint64_t answer = sk_read(STEPPING(m), i.address, sizeof bytes, bytes, sizeof bytes);
+    uint64_t answer = kettle_read(STEPPING(m), i.address, sizeof bytes, bytes, sizeof bytes);
 
-    i.there = sk_code(answer) == SK_ACCEPTED && sk_above(answer) == sizeof bytes;
-    i.word = sk_word(bytes);
+    i.there = kettle_code(answer) == KETTLE_ACCEPTED && kettle_above(answer) == sizeof bytes;
+    i.word = kettle_word(bytes);
     return i;
 }
 
@@ -265,7 +265,7 @@ static void show_last(struct machine *m, const struct program *p, int with_refus
     struct instruction last[RECORDS];
     int n = 0;
 
-    while (n < RECORDS && sk_code(sk_step_back(STEPPING(m))) == SK_ACCEPTED)
+    while (n < RECORDS && kettle_code(kettle_step_back(STEPPING(m))) == KETTLE_ACCEPTED)
         last[n++] = at_pc(m);
     while (n > 0)
         show(p, "    ", last[--n]);
@@ -278,13 +278,13 @@ static void show_last(struct machine *m, const struct program *p, int with_refus
 /* The run has ended with the machine halted. A store that failed halts it too, whatever A is then. */
 static int halted(const struct machine *m, const struct file *file, unsigned long long steps)
 {
-    unsigned flags = sk_register_of(m->block, SK_FLAGS);
+    unsigned flags = kettle_register_of(m->block, KETTLE_FLAGS);
 
-    if (flags & SK_FLAG_FAILED) {
+    if (flags & KETTLE_FLAG_FAILED) {
         printf("rejected %s (%llu steps, a store failed)\n", file->name, steps);
         return SOME_REJECTED;
     }
-    if (sk_register_of(m->block, SK_A) != 1) {
+    if (kettle_register_of(m->block, KETTLE_A) != 1) {
         printf("rejected %s (%llu steps)\n", file->name, steps);
         return SOME_REJECTED;
     }
@@ -295,18 +295,18 @@ static int halted(const struct machine *m, const struct file *file, unsigned lon
 /* Runs the program on a file. */
 static int judge(struct machine *m, const struct program *p, const struct file *file, uint32_t limit)
 {
-    uint64_t answer = sk_run(STEPPING(m), limit);
-    unsigned long long steps = sk_above(answer);
-    unsigned code = sk_code(answer);
+    uint64_t answer = kettle_run(STEPPING(m), limit);
+    unsigned long long steps = kettle_above(answer);
+    unsigned code = kettle_code(answer);
 
-    /* SK_STOP comes from the step after the one that halts; the limit may lie between the two. */
-    if (code == SK_STOP || (code == SK_ACCEPTED && (sk_register_of(m->block, SK_FLAGS) & SK_FLAG_HALT)))
+    /* KETTLE_STOP comes from the step after the one that halts; the limit may lie between the two. */
+    if (code == KETTLE_STOP || (code == KETTLE_ACCEPTED && (kettle_register_of(m->block, KETTLE_FLAGS) & KETTLE_FLAG_HALT)))
         return halted(m, file, steps);
-    if (code == SK_ACCEPTED)
+    if (code == KETTLE_ACCEPTED)
         printf("rejected %s (%llu steps, no more are allowed)\n", file->name, steps);
     else
-        printf("rejected %s (%llu steps, refused %u %s)\n", file->name, steps, code, sk_code_name(code));
-    show_last(m, p, code != SK_ACCEPTED);
+        printf("rejected %s (%llu steps, refused %u %s)\n", file->name, steps, code, kettle_code_name(code));
+    show_last(m, p, code != KETTLE_ACCEPTED);
     return SOME_REJECTED;
 }
 
@@ -360,7 +360,7 @@ static int with_program(const char *name, char **names, uint32_t limit)
     int status;
 
     p.text = malloc(TEXT_MOST);
-    p.listing = malloc(SK_LISTING_MOST);
+    p.listing = malloc(KETTLE_LISTING_MOST);
     if (p.text == NULL || p.listing == NULL)
         status = complain(name, "there is no memory for it");
     else

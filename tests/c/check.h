@@ -74,8 +74,8 @@ void discard(struct machine *m);
 void keep_all(struct machine *m);
 bool all_kept(const struct machine *m);
 void put_word(uint8_t *at, unsigned word);
-void put_register(struct machine *m, enum sk_register r, unsigned value);
-unsigned reg(const struct machine *m, enum sk_register r);
+void put_register(struct machine *m, enum kettle_register r, unsigned value);
+unsigned reg(const struct machine *m, enum kettle_register r);
 unsigned next(const struct machine *m);
 
 /* Each calls its entry, and checks that a refusal, or Stop, has changed nothing (of a load, a run: but for what they keep), and that

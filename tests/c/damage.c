@@ -4,11 +4,11 @@
 
 #include "check.h"
 
-enum { MEMORY = 64, DEVICES = 40, JOURNAL = 3 * SK_RECORD_SIZE + 5 };
+enum { MEMORY = 64, DEVICES = 40, JOURNAL = 3 * KETTLE_RECORD_SIZE + 5 };
 
 /* Every byte of memory and devices has zeros in its low four bits, so that any word that is fetched is a NOOP and goes on. */
 struct base {
-    uint8_t block[SK_BLOCK_SIZE], memory[MEMORY], devices[DEVICES], journal[JOURNAL];
+    uint8_t block[KETTLE_BLOCK_SIZE], memory[MEMORY], devices[DEVICES], journal[JOURNAL];
 };
 
 static struct base base;
@@ -17,7 +17,7 @@ static struct bytes words, got, hoped;
 
 static void restore(struct machine *x)
 {
-    memcpy(x->block.at, base.block, SK_BLOCK_SIZE);
+    memcpy(x->block.at, base.block, KETTLE_BLOCK_SIZE);
     memcpy(x->memory.at, base.memory, MEMORY);
     memcpy(x->devices.at, base.devices, DEVICES);
     if (x->journal.len > 0)
@@ -26,7 +26,7 @@ static void restore(struct machine *x)
 
 static void alike(void)
 {
-    CHECK(memcmp(m.block.at, want.block.at, SK_BLOCK_SIZE) == 0);
+    CHECK(memcmp(m.block.at, want.block.at, KETTLE_BLOCK_SIZE) == 0);
     CHECK(memcmp(m.memory.at, want.memory.at, MEMORY) == 0);
     CHECK(memcmp(m.devices.at, want.devices.at, DEVICES) == 0);
     CHECK(m.journal.len == 0 || memcmp(m.journal.at, want.journal.at, m.journal.len) == 0);
@@ -48,7 +48,7 @@ static void entries(void)
     SAME(run(&m, 5), ref_run(&want, 5));
     SAME(back(&m), ref_back(&want));
     SAME(forget(&m), ref_forget(&want));
-    SAME(set(&m, SK_M, 0x1234), ref_set(&want, SK_M, 0x1234));
+    SAME(set(&m, KETTLE_M, 0x1234), ref_set(&want, KETTLE_M, 0x1234));
     SAME(set(&m, 8, 0x1234), ref_set(&want, 8, 0x1234));
     SAME(protect(&m, 30, 2), ref_protect(&want, 30, 2));
     SAME(protect(&m, 30, 65535), ref_protect(&want, 30, 65535));
@@ -63,8 +63,8 @@ static void entries(void)
 
 static void record(unsigned slot, unsigned kind, unsigned a, unsigned b)
 {
-    uint8_t *p = base.journal + (size_t)SK_RECORD_SIZE * slot;
-    for (unsigned i = 0; i < SK_RECORD_SIZE; i++)
+    uint8_t *p = base.journal + (size_t)KETTLE_RECORD_SIZE * slot;
+    for (unsigned i = 0; i < KETTLE_RECORD_SIZE; i++)
         p[i] = (uint8_t)(7 * i + slot);
     p[0] = (uint8_t)kind;
     put_word(p + 17, a);
@@ -94,34 +94,34 @@ static void build(int which)
     record(2, 0, 1000, 1000);
     if (which == 0)
         return;
-    put_word(base.block + 2 * SK_PC, 10);
-    put_word(base.block + 2 * SK_FLAGS, 8);
-    put_word(base.block + SK_BLOCK_NEXT, 2);
-    put_word(base.block + SK_BLOCK_HELD, 2);
-    base.block[SK_BLOCK_PROTECTED] = 2;
-    pair(SK_BLOCK_REGIONS, 0, 2, 6);
-    pair(SK_BLOCK_REGIONS, 1, 50, 300);
-    base.block[SK_BLOCK_DEVICE_COUNT] = 2;
-    pair(SK_BLOCK_DEVICES, 0, 16, 20);
-    pair(SK_BLOCK_DEVICES, 1, 80, 100);
+    put_word(base.block + 2 * KETTLE_PC, 10);
+    put_word(base.block + 2 * KETTLE_FLAGS, 8);
+    put_word(base.block + KETTLE_BLOCK_NEXT, 2);
+    put_word(base.block + KETTLE_BLOCK_HELD, 2);
+    base.block[KETTLE_BLOCK_PROTECTED] = 2;
+    pair(KETTLE_BLOCK_REGIONS, 0, 2, 6);
+    pair(KETTLE_BLOCK_REGIONS, 1, 50, 300);
+    base.block[KETTLE_BLOCK_DEVICE_COUNT] = 2;
+    pair(KETTLE_BLOCK_DEVICES, 0, 16, 20);
+    pair(KETTLE_BLOCK_DEVICES, 1, 80, 100);
     if (which == 1)
         return;
-    put_word(base.block + SK_BLOCK_NEXT, 0);
-    put_word(base.block + SK_BLOCK_HELD, 3);
-    base.block[SK_BLOCK_PROTECTED] = 8;
-    base.block[SK_BLOCK_DEVICE_COUNT] = 8;
+    put_word(base.block + KETTLE_BLOCK_NEXT, 0);
+    put_word(base.block + KETTLE_BLOCK_HELD, 3);
+    base.block[KETTLE_BLOCK_PROTECTED] = 8;
+    base.block[KETTLE_BLOCK_DEVICE_COUNT] = 8;
     for (unsigned i = 2; i < 8; i++) {
-        pair(SK_BLOCK_REGIONS, i, 1000 + 256 * i, 255);
-        pair(SK_BLOCK_DEVICES, i, 256 * i, 256 * i + 2);
+        pair(KETTLE_BLOCK_REGIONS, i, 1000 + 256 * i, 255);
+        pair(KETTLE_BLOCK_DEVICES, i, 256 * i, 256 * i + 2);
     }
     if (which == 2)
         return;
-    base.block[SK_BLOCK_DEBUG] = 1;
-    put_word(base.block + SK_BLOCK_NEXT, 0);
-    put_word(base.block + SK_BLOCK_HELD, 0);
-    put_word(base.block + 2 * SK_PC, 65533);
-    pair(SK_BLOCK_REGIONS, 7, 65000, 535);
-    pair(SK_BLOCK_DEVICES, 7, 65531, 65535);
+    base.block[KETTLE_BLOCK_DEBUG] = 1;
+    put_word(base.block + KETTLE_BLOCK_NEXT, 0);
+    put_word(base.block + KETTLE_BLOCK_HELD, 0);
+    put_word(base.block + 2 * KETTLE_PC, 65533);
+    pair(KETTLE_BLOCK_REGIONS, 7, 65000, 535);
+    pair(KETTLE_BLOCK_DEVICES, 7, 65531, 65535);
 }
 
 static void every_byte(uint8_t *bytes, size_t len, const char *what, int which)
@@ -141,7 +141,7 @@ static void two_at_once(int which)
 {
     for (int round = 0; round < 3000; round++) {
         during("a block with two bytes damaged", which, round, 0);
-        size_t i = any_below(SK_BLOCK_SIZE), k = any_below(SK_BLOCK_SIZE);
+        size_t i = any_below(KETTLE_BLOCK_SIZE), k = any_below(KETTLE_BLOCK_SIZE);
         uint8_t old_i = base.block[i], old_k = base.block[k];
         base.block[i] = (uint8_t)(any_below(2) ? any_below(256) : any_below(10));
         base.block[k] = (uint8_t)(any_below(2) ? any_below(256) : any_below(10));
@@ -160,19 +160,19 @@ void test_damage(void)
     hoped = lend(24);
     for (int which = 0; which < 4; which++) {
         /* the last one has no journal: room for 0 records */
-        size_t journal = which == 3 ? SK_RECORD_SIZE - 1 : JOURNAL;
+        size_t journal = which == 3 ? KETTLE_RECORD_SIZE - 1 : JOURNAL;
         build(which);
         m = machine(MEMORY, DEVICES, journal, 0);
         want = machine(MEMORY, DEVICES, journal, 0);
         restore(&m);
         CHECK(is_valid(&m));
         entries();
-        every_byte(base.block, SK_BLOCK_SIZE, "a block, its damaged byte", which);
+        every_byte(base.block, KETTLE_BLOCK_SIZE, "a block, its damaged byte", which);
         two_at_once(which);
         if (which == 2) {
             for (unsigned slot = 0; slot < 3; slot++) {
-                put_word(base.block + SK_BLOCK_NEXT, (slot + 1) % 3);
-                every_byte(base.journal + (size_t)SK_RECORD_SIZE * slot, SK_RECORD_SIZE, "a record, its damaged byte", (int)slot);
+                put_word(base.block + KETTLE_BLOCK_NEXT, (slot + 1) % 3);
+                every_byte(base.journal + (size_t)KETTLE_RECORD_SIZE * slot, KETTLE_RECORD_SIZE, "a record, its damaged byte", (int)slot);
             }
         }
         discard(&m);

@@ -25,8 +25,8 @@ static void both(uint8_t *at, uint8_t *as_well, uint8_t value)
 static void any_registers(void)
 {
     for (unsigned i = 0; i < 8; i++)
-        put_register(&m, (enum sk_register)i, any_value(m.memory.len));
-    put_register(&m, SK_FLAGS, any_below(40) == 0 ? any_below(65536) : any_below(8) << 1);
+        put_register(&m, (enum kettle_register)i, any_value(m.memory.len));
+    put_register(&m, KETTLE_FLAGS, any_below(40) == 0 ? any_below(65536) : any_below(8) << 1);
     memcpy(want.block.at, m.block.at, 16);
 }
 
@@ -37,7 +37,7 @@ static void tables(void)
         device(&m, at, len / 2);
         protect(&m, region, len);
     }
-    memcpy(want.block.at, m.block.at, SK_BLOCK_SIZE);
+    memcpy(want.block.at, m.block.at, KETTLE_BLOCK_SIZE);
 }
 
 static void word_at(unsigned pc, unsigned word)
@@ -50,7 +50,7 @@ static void word_at(unsigned pc, unsigned word)
 
 static void alike(void)
 {
-    CHECK(memcmp(m.block.at, want.block.at, SK_BLOCK_SIZE) == 0);
+    CHECK(memcmp(m.block.at, want.block.at, KETTLE_BLOCK_SIZE) == 0);
     CHECK(m.memory.len == 0 || memcmp(m.memory.at, want.memory.at, m.memory.len) == 0);
     CHECK(m.devices.len == 0 || memcmp(m.devices.at, want.devices.at, m.devices.len) == 0);
     CHECK(m.journal.len == 0 || memcmp(m.journal.at, want.journal.at, m.journal.len) == 0);
@@ -77,7 +77,7 @@ static void every_word(size_t memory, size_t journal, int debug, unsigned stride
     for (unsigned word = any_below(stride); word < 65536; word += stride) {
         during("a word, memory of length", (long)word, (long)memory, 0);
         any_registers();
-        word_at(reg(&m, SK_PC), word);
+        word_at(reg(&m, KETTLE_PC), word);
         NUMBER(step(&m), ref_step(&want));
         alike();
         if (any_below(4) == 0) {
@@ -98,12 +98,12 @@ static void programs(void)
             uint32_t steps = any_below(60);
             during("a random program, its run", round, i, 0);
             any_registers();
-            put_register(&m, SK_PC, 2 * any_below((uint32_t)m.memory.len / 2));
+            put_register(&m, KETTLE_PC, 2 * any_below((uint32_t)m.memory.len / 2));
             memcpy(want.block.at, m.block.at, 16);
             /* words that are instructions, from PC on */
             for (unsigned k = 0; k < 20; k++) {
                 unsigned op = any_below(12);
-                word_at(reg(&m, SK_PC) + 2 * k, any_below(4096) << 4 | op);
+                word_at(reg(&m, KETTLE_PC) + 2 * k, any_below(4096) << 4 | op);
             }
             NUMBER(run(&m, steps), ref_run(&want, steps));
             alike();
@@ -114,10 +114,10 @@ static void programs(void)
 
 void test_instructions(void)
 {
-    every_word(96, 3 * SK_RECORD_SIZE, 0, 1);
-    every_word(131, 2 * SK_RECORD_SIZE + 7, 1, 1);
+    every_word(96, 3 * KETTLE_RECORD_SIZE, 0, 1);
+    every_word(131, 2 * KETTLE_RECORD_SIZE + 7, 1, 1);
     every_word(64, 0, 0, 3);
-    every_word(65535, SK_RECORD_SIZE, 0, 61);
-    every_word(65536, 5 * SK_RECORD_SIZE, 0, 31);
+    every_word(65535, KETTLE_RECORD_SIZE, 0, 61);
+    every_word(65536, 5 * KETTLE_RECORD_SIZE, 0, 31);
     programs();
 }

@@ -25,7 +25,7 @@ static bool store(struct turn *t, unsigned a, unsigned value)
 
 static void failed(struct turn *t)
 {
-    t->r[SK_FLAGS] |= SK_FLAG_HALT | SK_FLAG_FAILED;
+    t->r[KETTLE_FLAGS] |= KETTLE_FLAG_HALT | KETTLE_FLAG_FAILED;
 }
 
 static unsigned byte(struct turn *t, unsigned a)
@@ -121,8 +121,8 @@ static unsigned act(struct turn *t, const unsigned *old, unsigned w, bool *stays
     case 3: {
         unsigned other = field(w, 9, 1) ? old[field(w, 10, 3)] : field(w, 10, 6), op = field(w, 7, 2);
         number = reckon(op, old[reg], other, &t->r[reg]);
-        if (number == 0 && op == 3 && old[SK_FLAGS] & SK_FLAG_REMAINDER)
-            store(t, old[SK_SP], old[reg] % other);
+        if (number == 0 && op == 3 && old[KETTLE_FLAGS] & KETTLE_FLAG_REMAINDER)
+            store(t, old[KETTLE_SP], old[reg] % other);
         return number;
     }
     case 4: return load_or_store(t, old, w, true);
@@ -130,20 +130,20 @@ static unsigned act(struct turn *t, const unsigned *old, unsigned w, bool *stays
     case 5:
     case 6: {
         bool by_register = field(w, 4, 1), always = by_register || field(w, 0, 4) == 6;
-        *stays = always || old[SK_FLAGS] & SK_FLAG_TRUE;
+        *stays = always || old[KETTLE_FLAGS] & KETTLE_FLAG_TRUE;
         if (!always)
-            t->r[SK_FLAGS] &= ~(unsigned)SK_FLAG_TRUE;
+            t->r[KETTLE_FLAGS] &= ~(unsigned)KETTLE_FLAG_TRUE;
         if (*stays)
-            t->r[SK_PC] = by_register ? old[field(w, 5, 3)] : field(w, 5, 11);
+            t->r[KETTLE_PC] = by_register ? old[field(w, 5, 3)] : field(w, 5, 11);
         return 0;
     }
     case 7: {
         if (field(w, 7, 3) > 5)
             return 5;
         unsigned other = field(w, 10, 1) ? old[field(w, 11, 3)] : field(w, 11, 5);
-        t->r[SK_FLAGS] &= ~(unsigned)SK_FLAG_TRUE;
+        t->r[KETTLE_FLAGS] &= ~(unsigned)KETTLE_FLAG_TRUE;
         if (compare(field(w, 7, 3), old[reg], other))
-            t->r[SK_FLAGS] |= SK_FLAG_TRUE;
+            t->r[KETTLE_FLAGS] |= KETTLE_FLAG_TRUE;
         return 0;
     }
     case 9:
@@ -157,13 +157,13 @@ static unsigned act(struct turn *t, const unsigned *old, unsigned w, bool *stays
     case 11:
         *stays = true;
         if (field(w, 4, 1)) {
-            t->r[SK_PC] = old[SK_M];
+            t->r[KETTLE_PC] = old[KETTLE_M];
             return 0;
         }
-        if (old[SK_PC] >= 65534)
+        if (old[KETTLE_PC] >= 65534)
             return 9;
-        t->r[SK_M] = old[SK_PC] + 2;
-        t->r[SK_PC] = field(w, 5, 11);
+        t->r[KETTLE_M] = old[KETTLE_PC] + 2;
+        t->r[KETTLE_PC] = field(w, 5, 11);
         return 0;
     default: return 4;
     }
@@ -172,11 +172,11 @@ static unsigned act(struct turn *t, const unsigned *old, unsigned w, bool *stays
 uint64_t ref_turn(struct machine *m)
 {
     struct turn t = {.m = m};
-    unsigned old[8], pc = reg(m, SK_PC), word, number;
+    unsigned old[8], pc = reg(m, KETTLE_PC), word, number;
     bool stays = false, of_device;
     for (unsigned i = 0; i < 8; i++)
-        old[i] = t.r[i] = reg(m, (enum sk_register)i);
-    if (old[SK_FLAGS] & SK_FLAG_HALT)
+        old[i] = t.r[i] = reg(m, (enum kettle_register)i);
+    if (old[KETTLE_FLAGS] & KETTLE_FLAG_HALT)
         return 257;
     if (!is_mapped(m, pc))
         return 2;
@@ -189,14 +189,14 @@ uint64_t ref_turn(struct machine *m)
     if (number != 0)
         return number;
     if (!stays) {
-        if (t.r[SK_PC] >= 65534)
+        if (t.r[KETTLE_PC] >= 65534)
             return 9;
-        t.r[SK_PC] += 2;
+        t.r[KETTLE_PC] += 2;
     }
     ref_record(m, t.stores, t.at);
     for (unsigned i = 0; i < t.stores; i++)
         *ref_byte(m, t.at[i], &of_device) = t.value[i];
     for (unsigned i = 0; i < 8; i++)
-        put_register(m, (enum sk_register)i, t.r[i]);
-    return field(word, 0, 4) == 0 && m->block.at[SK_BLOCK_DEBUG] == 1 ? 256 : 0;
+        put_register(m, (enum kettle_register)i, t.r[i]);
+    return field(word, 0, 4) == 0 && m->block.at[KETTLE_BLOCK_DEBUG] == 1 ? 256 : 0;
 }

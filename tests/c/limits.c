@@ -34,13 +34,13 @@ static void words(void)
         for (int strict = 0; strict < 2; strict++) {
             during("words", (long)n, strict, 0);
             uint64_t answer = assemble(&text, strict, &program);
-            if (n <= SK_WORDS_MOST) {
+            if (n <= KETTLE_WORDS_MOST) {
                 NUMBER(answer, (uint64_t)n << 16 | (uint64_t)1 << 48);
                 for (unsigned i = 0; i < n; i += 97)
-                    NUMBER(sk_word(program.at + 2 * (size_t)i), 0x0101);
-                NUMBER(sk_word(program.at + 2 * (size_t)(n - 1)), 0x0101);
+                    NUMBER(kettle_word(program.at + 2 * (size_t)i), 0x0101);
+                NUMBER(kettle_word(program.at + 2 * (size_t)(n - 1)), 0x0101);
             } else {
-                NUMBER(answer, at_line(SK_PROGRAM_FULL, SK_WORDS_MOST + 1));
+                NUMBER(answer, at_line(KETTLE_PROGRAM_FULL, KETTLE_WORDS_MOST + 1));
             }
         }
         give_back(&text);
@@ -50,7 +50,7 @@ static void words(void)
     /* room for fewer: the line that finds none */
     for (size_t len = 0; len <= 20; len += 2) {
         struct bytes text = lines("MOV A, #1\n", 12, ""), few = lend(len);
-        NUMBER(assemble(&text, 1, &few), at_line(SK_PROGRAM_FULL, len / 2 + 1));
+        NUMBER(assemble(&text, 1, &few), at_line(KETTLE_PROGRAM_FULL, len / 2 + 1));
         give_back(&text);
         give_back(&few);
     }
@@ -63,7 +63,7 @@ static void labels(void)
         struct bytes text = lines("l%u:\n", n, "DBG\nl5:\nl1022:\n");
         during("labels", (long)n, 0, 0);
         /* a name that is known is no new one */
-        NUMBER(assemble(&text, 1, &program), n <= 1024 ? (uint64_t)1 << 16 | (uint64_t)n << 48 : at_line(SK_TOO_MANY_LABELS, 1025));
+        NUMBER(assemble(&text, 1, &program), n <= 1024 ? (uint64_t)1 << 16 | (uint64_t)n << 48 : at_line(KETTLE_TOO_MANY_LABELS, 1025));
         give_back(&text);
     }
     give_back(&program);
@@ -76,26 +76,26 @@ static void open_references(void)
         struct bytes text = lines("JMP l%u\n", n, "");
         during("open references", (long)n, 0, 0);
         NUMBER(assemble(&text, 1, &program),
-               n <= 512 ? (uint64_t)n << 16 | (uint64_t)n << 32 : at_line(SK_TOO_MANY_FIXUPS, 513));
+               n <= 512 ? (uint64_t)n << 16 | (uint64_t)n << 32 : at_line(KETTLE_TOO_MANY_FIXUPS, 513));
         give_back(&text);
     }
     /* one that is resolved makes room again */
     struct bytes text = lines("CJP x\n", 512, "x:\nJMP y\nJMP y\nx:\nJMP x\n");
     NUMBER(assemble(&text, 1, &program), (uint64_t)515 << 16 | (uint64_t)2 << 32 | (uint64_t)1 << 48);
-    NUMBER(sk_word(program.at), 1024 << 5 | 5);
-    NUMBER(sk_word(program.at + 2 * 511), 1024 << 5 | 5);
-    NUMBER(sk_word(program.at + 2 * 514), 1028 << 5 | 6);
+    NUMBER(kettle_word(program.at), 1024 << 5 | 5);
+    NUMBER(kettle_word(program.at + 2 * 511), 1024 << 5 | 5);
+    NUMBER(kettle_word(program.at + 2 * 514), 1028 << 5 | 6);
     give_back(&text);
     give_back(&program);
 
     /* no room for a word comes before no room for a reference; a field too wide before both */
     program = lend(1024);
     text = lines("JMP x\n", 512, "JMP x\n");
-    NUMBER(assemble(&text, 1, &program), at_line(SK_PROGRAM_FULL, 513));
+    NUMBER(assemble(&text, 1, &program), at_line(KETTLE_PROGRAM_FULL, 513));
     give_back(&text);
     text = lines("JMP x\n", 512, "JMP #2048\n");
-    NUMBER(assemble(&text, 1, &program), at_line(SK_FIELD_TOO_WIDE, 513));
-    NUMBER(assemble(&text, 0, &program), at_line(SK_PROGRAM_FULL, 513));
+    NUMBER(assemble(&text, 1, &program), at_line(KETTLE_FIELD_TOO_WIDE, 513));
+    NUMBER(assemble(&text, 0, &program), at_line(KETTLE_PROGRAM_FULL, 513));
     give_back(&text);
     give_back(&program);
 }
@@ -103,7 +103,7 @@ static void open_references(void)
 static void many_lines(void)
 {
     struct bytes text = lines("\n", 300000, "FOO"), program = lend(2);
-    NUMBER(assemble(&text, 1, &program), at_line(SK_INVALID_INSTRUCTION, 300001));
+    NUMBER(assemble(&text, 1, &program), at_line(KETTLE_INVALID_INSTRUCTION, 300001));
     give_back(&text);
     give_back(&program);
 }

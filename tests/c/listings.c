@@ -15,7 +15,7 @@ static void listing(const struct bytes *text, const char *want)
     }
     for (size_t len = 0; len < n; len += len + 40 < n ? 7 : 1) {
         struct bytes out = lend(len);
-        NUMBER(list(text, &out), SK_NO_ROOM);
+        NUMBER(list(text, &out), KETTLE_NO_ROOM);
         give_back(&out);
     }
 }
@@ -64,15 +64,15 @@ static void long_ones(void)
         text = lend(words * len);
         for (size_t k = 0; k < words; k++)
             memcpy(text.at + k * len, forms[i].line, len);
-        struct bytes out = lend(SK_LISTING_MOST);
+        struct bytes out = lend(KETTLE_LISTING_MOST);
         uint64_t answer = list(&text, &out);
-        NUMBER(sk_code(answer), SK_ACCEPTED);
-        size_t n = (size_t)sk_above(answer);
+        NUMBER(kettle_code(answer), KETTLE_ACCEPTED);
+        size_t n = (size_t)kettle_above(answer);
         NUMBER(n, words * forms[i].shown + strlen("words  open 0\n") + (words < 10000 ? 4 : 5));
         struct bytes fit = lend(n), tight = lend(n - 1);
         NUMBER(list(&text, &fit), answer);
         CHECK(memcmp(fit.at, out.at, n) == 0);
-        NUMBER(list(&text, &tight), SK_NO_ROOM);
+        NUMBER(list(&text, &tight), KETTLE_NO_ROOM);
         give_back(&fit);
         give_back(&tight);
         give_back(&out);

@@ -5,8 +5,8 @@
 
 struct machine machine(size_t memory, size_t devices, size_t journal, int debug)
 {
-    struct machine m = {lend(SK_BLOCK_SIZE), lend(memory), lend(devices), lend(journal)};
-    sk_fresh(m.block.at, debug);
+    struct machine m = {lend(KETTLE_BLOCK_SIZE), lend(memory), lend(devices), lend(journal)};
+    kettle_fresh(m.block.at, debug);
     return m;
 }
 
@@ -37,43 +37,43 @@ void put_word(uint8_t *at, unsigned word)
     at[1] = (uint8_t)(word >> 8 & 255);
 }
 
-void put_register(struct machine *m, enum sk_register r, unsigned value)
+void put_register(struct machine *m, enum kettle_register r, unsigned value)
 {
-    put_word(m->block.at + SK_BLOCK_REGISTERS + 2 * (size_t)r, value);
+    put_word(m->block.at + KETTLE_BLOCK_REGISTERS + 2 * (size_t)r, value);
 }
 
-unsigned reg(const struct machine *m, enum sk_register r)
+unsigned reg(const struct machine *m, enum kettle_register r)
 {
-    return sk_register_of(m->block.at, r);
+    return kettle_register_of(m->block.at, r);
 }
 
 unsigned next(const struct machine *m)
 {
-    return sk_word(m->block.at + SK_BLOCK_NEXT);
+    return kettle_word(m->block.at + KETTLE_BLOCK_NEXT);
 }
 
 static bool seen[258];
 
 static bool is_refusal(uint64_t answer)
 {
-    CHECK(sk_code(answer) < 258);
-    if (sk_code(answer) < 258)
-        seen[sk_code(answer)] = true;
-    return sk_code(answer) >= 1 && sk_code(answer) <= 255;
+    CHECK(kettle_code(answer) < 258);
+    if (kettle_code(answer) < 258)
+        seen[kettle_code(answer)] = true;
+    return kettle_code(answer) >= 1 && kettle_code(answer) <= 255;
 }
 
 /* all but the registers, next and held */
 static bool tables_kept(const struct machine *m)
 {
-    return memcmp(m->block.copy + SK_BLOCK_DEBUG, m->block.at + SK_BLOCK_DEBUG, SK_BLOCK_NEXT - SK_BLOCK_DEBUG) == 0;
+    return memcmp(m->block.copy + KETTLE_BLOCK_DEBUG, m->block.at + KETTLE_BLOCK_DEBUG, KETTLE_BLOCK_NEXT - KETTLE_BLOCK_DEBUG) == 0;
 }
 
 uint64_t step(struct machine *m)
 {
     keep_all(m);
-    uint64_t answer = sk_step(ALL(m));
-    NUMBER(sk_above(answer), 0);
-    if (is_refusal(answer) || sk_code(answer) == SK_STOP)
+    uint64_t answer = kettle_step(ALL(m));
+    NUMBER(kettle_above(answer), 0);
+    if (is_refusal(answer) || kettle_code(answer) == KETTLE_STOP)
         CHECK(all_kept(m));
     else
         CHECK(tables_kept(m));
@@ -83,22 +83,22 @@ uint64_t step(struct machine *m)
 uint64_t run(struct machine *m, uint32_t steps)
 {
     keep_all(m);
-    uint64_t answer = sk_run(ALL(m), steps);
-    CHECK(sk_above(answer) <= steps);
-    if (sk_above(answer) == 0)
+    uint64_t answer = kettle_run(ALL(m), steps);
+    CHECK(kettle_above(answer) <= steps);
+    if (kettle_above(answer) == 0)
         CHECK(all_kept(m));
     else
         CHECK(tables_kept(m));
-    if (!is_refusal(answer) && sk_code(answer) == SK_ACCEPTED)
-        NUMBER(sk_above(answer), steps);
+    if (!is_refusal(answer) && kettle_code(answer) == KETTLE_ACCEPTED)
+        NUMBER(kettle_above(answer), steps);
     return answer;
 }
 
 uint64_t back(struct machine *m)
 {
     keep_all(m);
-    uint64_t answer = sk_step_back(ALL(m));
-    NUMBER(sk_above(answer), 0);
+    uint64_t answer = kettle_step_back(ALL(m));
+    NUMBER(kettle_above(answer), 0);
     CHECK(kept(&m->journal));
     if (is_refusal(answer))
         CHECK(all_kept(m));
@@ -110,13 +110,13 @@ uint64_t back(struct machine *m)
 /* what the four that write the block alone have in common */
 static uint64_t changed(struct machine *m, uint64_t answer)
 {
-    NUMBER(sk_above(answer), 0);
+    NUMBER(kettle_above(answer), 0);
     CHECK(kept(&m->devices) && kept(&m->journal) && kept(&m->memory));
     if (is_refusal(answer)) {
         CHECK(kept(&m->block));
     } else {
         NUMBER(next(m), 0);
-        NUMBER(sk_held(m->block.at), 0);
+        NUMBER(kettle_held(m->block.at), 0);
     }
     return answer;
 }
@@ -124,44 +124,44 @@ static uint64_t changed(struct machine *m, uint64_t answer)
 uint64_t set(struct machine *m, size_t number, uint16_t value)
 {
     keep_all(m);
-    return changed(m, sk_set_register(TABLES(m), number, value));
+    return changed(m, kettle_set_register(TABLES(m), number, value));
 }
 
 uint64_t protect(struct machine *m, size_t start, size_t len)
 {
     keep_all(m);
-    return changed(m, sk_protect(TABLES(m), start, len));
+    return changed(m, kettle_protect(TABLES(m), start, len));
 }
 
 uint64_t device(struct machine *m, size_t start, size_t size)
 {
     keep_all(m);
-    return changed(m, sk_device(TABLES(m), start, size));
+    return changed(m, kettle_device(TABLES(m), start, size));
 }
 
 uint64_t forget(struct machine *m)
 {
     keep_all(m);
-    uint64_t answer = changed(m, sk_forget(TABLES(m)));
-    if (m->block.len == SK_BLOCK_SIZE)
-        CHECK(memcmp(m->block.copy, m->block.at, SK_BLOCK_NEXT) == 0);
+    uint64_t answer = changed(m, kettle_forget(TABLES(m)));
+    if (m->block.len == KETTLE_BLOCK_SIZE)
+        CHECK(memcmp(m->block.copy, m->block.at, KETTLE_BLOCK_NEXT) == 0);
     return answer;
 }
 
 uint64_t load(struct machine *m, const struct bytes *words)
 {
     keep_all(m);
-    uint64_t answer = sk_load(ALL(m), words->at, words->len);
-    NUMBER(sk_above(answer), 0);
+    uint64_t answer = kettle_load(ALL(m), words->at, words->len);
+    NUMBER(kettle_above(answer), 0);
     CHECK(kept(&m->journal));
-    if (is_refusal(answer) && answer != SK_WRITE_FAILED && answer != SK_OVERLAP) {
+    if (is_refusal(answer) && answer != KETTLE_WRITE_FAILED && answer != KETTLE_OVERLAP) {
         CHECK(all_kept(m));
         return answer;
     }
     NUMBER(next(m), 0);
-    NUMBER(sk_held(m->block.at), 0);
-    if (answer != SK_ACCEPTED)
-        CHECK(memcmp(m->block.copy, m->block.at, SK_BLOCK_NEXT) == 0);
+    NUMBER(kettle_held(m->block.at), 0);
+    if (answer != KETTLE_ACCEPTED)
+        CHECK(memcmp(m->block.copy, m->block.at, KETTLE_BLOCK_NEXT) == 0);
     return answer;
 }
 
@@ -180,14 +180,14 @@ uint64_t read_out(struct machine *m, size_t start, size_t size, struct bytes *bu
 {
     keep_all(m);
     keep(buffer);
-    uint64_t answer = sk_read(ALL(m), start, size, buffer->at, buffer->len);
+    uint64_t answer = kettle_read(ALL(m), start, size, buffer->at, buffer->len);
     CHECK(all_kept(m));
-    CHECK(sk_above(answer) <= size && sk_above(answer) <= buffer->len);
+    CHECK(kettle_above(answer) <= size && kettle_above(answer) <= buffer->len);
     if (is_refusal(answer)) {
-        NUMBER(sk_above(answer), 0);
+        NUMBER(kettle_above(answer), 0);
         CHECK(kept(buffer));
     } else {
-        size_t n = (size_t)sk_above(answer);
+        size_t n = (size_t)kettle_above(answer);
         CHECK(n == buffer->len || memcmp(buffer->copy + n, buffer->at + n, buffer->len - n) == 0);
     }
     return answer;
@@ -197,14 +197,14 @@ uint64_t assemble(const struct bytes *text, int strict, struct bytes *words)
 {
     if (words->len > 0)
         memset(words->at, 0xcc, words->len);
-    uint64_t answer = sk_assemble(text->at, text->len, (uint8_t)strict, words->at, words->len);
-    if (is_refusal(answer) && answer == SK_BAD_BLOCK) {
+    uint64_t answer = kettle_assemble(text->at, text->len, (uint8_t)strict, words->at, words->len);
+    if (is_refusal(answer) && answer == KETTLE_BAD_BLOCK) {
         CHECK(all_are(words->at, words->len, 0xcc));
     } else if (is_refusal(answer)) {
-        CHECK(sk_above(answer) >= 1);
+        CHECK(kettle_above(answer) >= 1);
         CHECK(all_are(words->at, words->len, 0));
     } else {
-        size_t used = 2 * (size_t)sk_words(answer);
+        size_t used = 2 * (size_t)kettle_words(answer);
         CHECK(used <= words->len);
         CHECK(used > words->len || all_are(words->at + used, words->len - used, 0));
     }
@@ -215,11 +215,11 @@ uint64_t list(const struct bytes *text, struct bytes *out)
 {
     if (out->len > 0)
         memset(out->at, 0xcc, out->len);
-    uint64_t answer = sk_list(text->at, text->len, out->at, out->len);
-    size_t n = (size_t)sk_above(answer);
+    uint64_t answer = kettle_list(text->at, text->len, out->at, out->len);
+    size_t n = (size_t)kettle_above(answer);
     CHECK(n <= out->len && all_are(out->at + n, out->len - n, 0xcc));
     if (is_refusal(answer)) {
-        NUMBER(answer, SK_NO_ROOM);
+        NUMBER(answer, KETTLE_NO_ROOM);
         NUMBER(n, 0);
     } else {
         CHECK(n > 0 && out->at[n - 1] == 10);
@@ -231,8 +231,8 @@ void test_seen(void)
 {
     for (unsigned code = 0; code < 258; code++) {
         during("the code", (long)code, 0, 0);
-        bool reached = code <= SK_BAD_BLOCK || code == SK_DEBUG || code == SK_STOP;
-        if (code == SK_INVALID_FORMAT || code == SK_UNRESOLVED_LABEL)
+        bool reached = code <= KETTLE_BAD_BLOCK || code == KETTLE_DEBUG || code == KETTLE_STOP;
+        if (code == KETTLE_INVALID_FORMAT || code == KETTLE_UNRESOLVED_LABEL)
             reached = false;
         CHECK(seen[code] == reached);
     }

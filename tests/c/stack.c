@@ -1,7 +1,7 @@
 /*
  * stack.c: how much stack each entry takes. Each is called on a stack of its own, painted before, over inputs that go as deep as
  * any: every instruction, every mnemonic and form of operand, full tables, the largest texts, programs and buffers. Prints the
- * bytes of each, and fails where they are more than the header's SK_STACK_ numbers. (What is reserved without being touched is
+ * bytes of each, and fails where they are more than the header's KETTLE_STACK_ numbers. (What is reserved without being touched is
  * not seen here; tests/c/frames reads that off the machine code.)
  */
 #define _GNU_SOURCE
@@ -15,8 +15,8 @@
 enum { STACK = 1 << 20, PAINT = 0x5a, TEXT_MOST = 1 << 18 };
 
 static uint8_t stack[STACK] __attribute__((aligned(16)));
-static uint8_t block[SK_BLOCK_SIZE], memory[65536], devices[4096], journal[SK_RECORD_SIZE * SK_RECORD_MOST], words[65540],
-    text[TEXT_MOST], out[SK_LISTING_MOST], buffer[65536];
+static uint8_t block[KETTLE_BLOCK_SIZE], memory[65536], devices[4096], journal[KETTLE_RECORD_SIZE * KETTLE_RECORD_MOST], words[65540],
+    text[TEXT_MOST], out[KETTLE_LISTING_MOST], buffer[65536];
 static size_t text_len;
 static ucontext_t here, there;
 static uint64_t sink;
@@ -48,18 +48,18 @@ static size_t stack_of(void (*prepare)(void), void (*calls)(void))
 static void add_tables(unsigned regions)
 {
     for (unsigned i = 0; i < 8; i++)
-        sink += sk_device(TABLES, 50000 + 600 * i, 500);
+        sink += kettle_device(TABLES, 50000 + 600 * i, 500);
     for (unsigned i = 0; i < regions; i++)
-        sink += sk_protect(TABLES, 40000 + 100 * i, 50);
+        sink += kettle_protect(TABLES, 40000 + 100 * i, 50);
 }
 
 static void full_machine(int debug, unsigned regions)
 {
-    sk_fresh(block, debug);
+    kettle_fresh(block, debug);
     add_tables(regions);
 }
 
-static void put_register(enum sk_register r, unsigned value)
+static void put_register(enum kettle_register r, unsigned value)
 {
     block[2 * r] = (uint8_t)value;
     block[2 * r + 1] = (uint8_t)(value >> 8);
@@ -69,13 +69,13 @@ static void put_register(enum sk_register r, unsigned value)
 static void all_words(uint64_t (*call)(void))
 {
     static const unsigned places[] = {0, 100, 39999, 40010, 50000, 50499, 54700, 65534, 65535};
-    static uint8_t fresh[SK_BLOCK_SIZE];
+    static uint8_t fresh[KETTLE_BLOCK_SIZE];
     memcpy(fresh, block, sizeof block);
     for (unsigned p = 0; p < sizeof places / sizeof *places; p++)
         for (unsigned word = 0; word < 65536; word++) {
             memcpy(block, fresh, sizeof block);
             for (unsigned r = 0; r < 8; r++)
-                put_register((enum sk_register)r, r == SK_PC ? 0 : r == SK_FLAGS ? (p & 1 ? 10 : 0) : places[(p + r) % 9]);
+                put_register((enum kettle_register)r, r == KETTLE_PC ? 0 : r == KETTLE_FLAGS ? (p & 1 ? 10 : 0) : places[(p + r) % 9]);
             memory[0] = (uint8_t)word;
             memory[1] = (uint8_t)(word >> 8);
             sink += call();
@@ -83,19 +83,19 @@ static void all_words(uint64_t (*call)(void))
 }
 
 static void full(void) { full_machine(1, 8); }
-static void empty(void) { sk_fresh(block, 0); }
-static uint64_t step_once(void) { return sk_step(MACHINE); }
-static uint64_t run_three(void) { return sk_run(MACHINE, 3); }
+static void empty(void) { kettle_fresh(block, 0); }
+static uint64_t step_once(void) { return kettle_step(MACHINE); }
+static uint64_t run_three(void) { return kettle_run(MACHINE, 3); }
 
 /* three records, of a word, of a byte and of nothing stored: STR A, [B #0] and STB A, [C #0] and MOV A, #0 */
 static void three_steps(void)
 {
     static const uint8_t program[] = {0x84, 0x04, 0x08, 0x05, 0x01, 0x00};
-    sk_fresh(block, 0);
-    sink += sk_load(MACHINE, program, sizeof program);
+    kettle_fresh(block, 0);
+    sink += kettle_load(MACHINE, program, sizeof program);
     add_tables(7);
-    sink += sk_set_register(TABLES, SK_B, 50000) + sk_set_register(TABLES, SK_C, 30000);
-    if (sk_run(MACHINE, 3) != (uint64_t)3 << 16)
+    sink += kettle_set_register(TABLES, KETTLE_B, 50000) + kettle_set_register(TABLES, KETTLE_C, 30000);
+    if (kettle_run(MACHINE, 3) != (uint64_t)3 << 16)
         abort();
 }
 
@@ -106,26 +106,26 @@ static void runs(void) { all_words(run_three); }
 static void steps_back(void)
 {
     for (unsigned i = 0; i < 4; i++)
-        sink += sk_step_back(MACHINE);
-    sink += sk_step_back(block, 1, memory, 0, devices, 0, journal, 0);
+        sink += kettle_step_back(MACHINE);
+    sink += kettle_step_back(block, 1, memory, 0, devices, 0, journal, 0);
 }
 
 static void loads(void)
 {
     for (size_t n = 0; n < sizeof words; n += n < 64 ? 1 : 4093) {
         full_machine(0, 7);
-        sink += sk_load(MACHINE, words, n);
+        sink += kettle_load(MACHINE, words, n);
     }
     full_machine(0, 0);
-    sink += sk_load(MACHINE, words, 65536);
+    sink += kettle_load(MACHINE, words, 65536);
     full_machine(0, 0);
-    sink += sk_load(MACHINE, words, 65538) + sk_load(MACHINE, words, 65540);
+    sink += kettle_load(MACHINE, words, 65538) + kettle_load(MACHINE, words, 65540);
 }
 
 static void registers(void)
 {
     for (size_t number = 0; number < 10; number++)
-        sink += sk_set_register(TABLES, number, 65535);
+        sink += kettle_set_register(TABLES, number, 65535);
 }
 
 static void tables(uint64_t (*add)(uint8_t *, size_t, const uint8_t *, size_t, const uint8_t *, size_t, size_t, size_t))
@@ -136,19 +136,19 @@ static void tables(uint64_t (*add)(uint8_t *, size_t, const uint8_t *, size_t, c
             sink += add(TABLES, numbers[i], numbers[j]);
 }
 
-static void regions(void) { tables(sk_protect); }
-static void new_devices(void) { tables(sk_device); }
+static void regions(void) { tables(kettle_protect); }
+static void new_devices(void) { tables(kettle_device); }
 
 static void forgets(void)
 {
-    sink += sk_forget(TABLES) + sk_forget(block, 1, devices, 0, journal, 0);
+    sink += kettle_forget(TABLES) + kettle_forget(block, 1, devices, 0, journal, 0);
 }
 
 static void reads(void)
 {
     for (size_t start = 0; start < 65540; start += 4099)
-        sink += sk_read(MACHINE, start, 65535 - (start < 65535 ? start : 0), buffer, sizeof buffer);
-    sink += sk_read(MACHINE, 0, 65535, buffer, 10);
+        sink += kettle_read(MACHINE, start, 65535 - (start < 65535 ? start : 0), buffer, sizeof buffer);
+    sink += kettle_read(MACHINE, 0, 65535, buffer, 10);
 }
 
 /* ---- texts ----------------------------------------------------------------------------------------------------------------- */
@@ -165,13 +165,13 @@ static void add_line(const char *line)
 
 static void assemble_once(void)
 {
-    sink += sk_assemble(text, text_len, 0, words, sizeof words) + sk_assemble(text, text_len, 1, words, sizeof words)
-            + sk_assemble(text, text_len, 1, words, 2);
+    sink += kettle_assemble(text, text_len, 0, words, sizeof words) + kettle_assemble(text, text_len, 1, words, sizeof words)
+            + kettle_assemble(text, text_len, 1, words, 2);
 }
 
 static void list_once(void)
 {
-    sink += sk_list(text, text_len, out, sizeof out) + sk_list(text, text_len, out, 20);
+    sink += kettle_list(text, text_len, out, sizeof out) + kettle_list(text, text_len, out, 20);
 }
 
 /* Texts are made on the usual stack, and each is handed over on the painted one. */
@@ -241,17 +241,17 @@ int main(void)
         const char *name;
         size_t used, most;
     } rows[] = {
-        {"sk_assemble", texts(assemble_once), SK_STACK_TEXT},
-        {"sk_list", texts(list_once), SK_STACK_TEXT},
-        {"sk_load", stack_of(NULL, loads), SK_STACK_LOAD},
-        {"sk_step", stack_of(full, steps), SK_STACK_OTHER},
-        {"sk_run", stack_of(full, runs), SK_STACK_OTHER},
-        {"sk_step_back", stack_of(three_steps, steps_back), SK_STACK_OTHER},
-        {"sk_set_register", stack_of(full, registers), SK_STACK_OTHER},
-        {"sk_protect", stack_of(empty, regions), SK_STACK_OTHER},
-        {"sk_device", stack_of(empty, new_devices), SK_STACK_OTHER},
-        {"sk_forget", stack_of(full, forgets), SK_STACK_OTHER},
-        {"sk_read", stack_of(full, reads), SK_STACK_OTHER},
+        {"kettle_assemble", texts(assemble_once), KETTLE_STACK_TEXT},
+        {"kettle_list", texts(list_once), KETTLE_STACK_TEXT},
+        {"kettle_load", stack_of(NULL, loads), KETTLE_STACK_LOAD},
+        {"kettle_step", stack_of(full, steps), KETTLE_STACK_OTHER},
+        {"kettle_run", stack_of(full, runs), KETTLE_STACK_OTHER},
+        {"kettle_step_back", stack_of(three_steps, steps_back), KETTLE_STACK_OTHER},
+        {"kettle_set_register", stack_of(full, registers), KETTLE_STACK_OTHER},
+        {"kettle_protect", stack_of(empty, regions), KETTLE_STACK_OTHER},
+        {"kettle_device", stack_of(empty, new_devices), KETTLE_STACK_OTHER},
+        {"kettle_forget", stack_of(full, forgets), KETTLE_STACK_OTHER},
+        {"kettle_read", stack_of(full, reads), KETTLE_STACK_OTHER},
     };
     int failed = 0;
     for (unsigned i = 0; i < sizeof rows / sizeof *rows; i++) {

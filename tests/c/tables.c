@@ -7,16 +7,16 @@ static void registers(void)
 {
     struct machine m = machine(0, 0, 0, 0);
     for (size_t r = 0; r < 8; r++) {
-        NUMBER(set(&m, r, (uint16_t)(0xfe00 + r)), SK_ACCEPTED);
+        NUMBER(set(&m, r, (uint16_t)(0xfe00 + r)), KETTLE_ACCEPTED);
         for (size_t k = 0; k < 8; k++)
-            NUMBER(sk_register_of(m.block.at, (enum sk_register)k), k <= r ? 0xfe00 + k : 0);
-        CHECK(memcmp(m.block.copy + 16, m.block.at + 16, SK_BLOCK_SIZE - 16) == 0);
+            NUMBER(kettle_register_of(m.block.at, (enum kettle_register)k), k <= r ? 0xfe00 + k : 0);
+        CHECK(memcmp(m.block.copy + 16, m.block.at + 16, KETTLE_BLOCK_SIZE - 16) == 0);
     }
     static const size_t none[] = {8, 9, 255, 256, 65535, 65536, 65537, (size_t)1 << 32, SIZE_MAX};
     for (size_t i = 0; i < sizeof none / sizeof *none; i++)
-        NUMBER(set(&m, none[i], 5), SK_BAD_REGISTER);
-    m.block.at[SK_BLOCK_HELD] = 1;
-    NUMBER(set(&m, 8, 5), SK_BAD_STATE);
+        NUMBER(set(&m, none[i], 5), KETTLE_BAD_REGISTER);
+    m.block.at[KETTLE_BLOCK_HELD] = 1;
+    NUMBER(set(&m, 8, 5), KETTLE_BAD_STATE);
     discard(&m);
 }
 
@@ -34,20 +34,20 @@ static void wide_ranges(void)
             bool past = start > 65535 || len > 65535 - start;
             during("a range", (long)start, (long)len, 0);
             struct machine m = machine(16, 65535, 0, 0);
-            NUMBER(protect(&m, start, len), past ? SK_RANGE_OVERFLOW : SK_ACCEPTED);
-            NUMBER(device(&m, start, len), past ? SK_RANGE_OVERFLOW : SK_ACCEPTED);
+            NUMBER(protect(&m, start, len), past ? KETTLE_RANGE_OVERFLOW : KETTLE_ACCEPTED);
+            NUMBER(device(&m, start, len), past ? KETTLE_RANGE_OVERFLOW : KETTLE_ACCEPTED);
             if (!past) {
-                NUMBER(sk_word(m.block.at + SK_BLOCK_REGIONS), start);
-                NUMBER(sk_word(m.block.at + SK_BLOCK_REGIONS + 2), len);
-                NUMBER(sk_word(m.block.at + SK_BLOCK_DEVICES), start);
-                NUMBER(sk_word(m.block.at + SK_BLOCK_DEVICES + 2), start + len);
+                NUMBER(kettle_word(m.block.at + KETTLE_BLOCK_REGIONS), start);
+                NUMBER(kettle_word(m.block.at + KETTLE_BLOCK_REGIONS + 2), len);
+                NUMBER(kettle_word(m.block.at + KETTLE_BLOCK_DEVICES), start);
+                NUMBER(kettle_word(m.block.at + KETTLE_BLOCK_DEVICES + 2), start + len);
             }
-            sk_fresh(m.block.at, 0);
+            kettle_fresh(m.block.at, 0);
             uint64_t answer = read_out(&m, start, len, &buffer);
             if (past)
-                NUMBER(answer, SK_RANGE_OVERFLOW);
+                NUMBER(answer, KETTLE_RANGE_OVERFLOW);
             else if (len > 16)
-                NUMBER(answer, SK_NO_ROOM);
+                NUMBER(answer, KETTLE_NO_ROOM);
             else
                 NUMBER(answer, (uint64_t)(start < 16 ? len : 0) << 16);
             discard(&m);
@@ -58,46 +58,46 @@ static void wide_ranges(void)
 static void regions(void)
 {
     struct machine m = machine(0, 0, 46, 0);
-    NUMBER(protect(&m, 10, 10), SK_ACCEPTED);
-    NUMBER(protect(&m, 20, 5), SK_ACCEPTED); /* regions may touch */
-    NUMBER(protect(&m, 5, 5), SK_ACCEPTED);
-    NUMBER(protect(&m, 19, 1), SK_OVERLAP);
-    NUMBER(protect(&m, 12, 0), SK_OVERLAP); /* its start lies inside */
-    NUMBER(protect(&m, 0, 6), SK_OVERLAP);
-    NUMBER(protect(&m, 0, 100), SK_OVERLAP);
-    NUMBER(protect(&m, 25, 0), SK_ACCEPTED);
-    NUMBER(protect(&m, 25, 0), SK_ACCEPTED); /* nothing lies inside an empty one */
-    NUMBER(protect(&m, 24, 2), SK_OVERLAP);
-    NUMBER(protect(&m, 25, 1), SK_OVERLAP);
-    NUMBER(protect(&m, 65535, 0), SK_ACCEPTED);
-    NUMBER(protect(&m, 65534, 1), SK_ACCEPTED);
-    NUMBER(protect(&m, 300, 1), SK_ACCEPTED);
-    NUMBER(m.block.at[SK_BLOCK_PROTECTED], 8);
-    NUMBER(protect(&m, 1, 65535), SK_RANGE_OVERFLOW); /* 12 before 13 before 14 */
-    NUMBER(protect(&m, 300, 1), SK_OVERLAP);
-    NUMBER(protect(&m, 400, 1), SK_TABLE_FULL);
+    NUMBER(protect(&m, 10, 10), KETTLE_ACCEPTED);
+    NUMBER(protect(&m, 20, 5), KETTLE_ACCEPTED); /* regions may touch */
+    NUMBER(protect(&m, 5, 5), KETTLE_ACCEPTED);
+    NUMBER(protect(&m, 19, 1), KETTLE_OVERLAP);
+    NUMBER(protect(&m, 12, 0), KETTLE_OVERLAP); /* its start lies inside */
+    NUMBER(protect(&m, 0, 6), KETTLE_OVERLAP);
+    NUMBER(protect(&m, 0, 100), KETTLE_OVERLAP);
+    NUMBER(protect(&m, 25, 0), KETTLE_ACCEPTED);
+    NUMBER(protect(&m, 25, 0), KETTLE_ACCEPTED); /* nothing lies inside an empty one */
+    NUMBER(protect(&m, 24, 2), KETTLE_OVERLAP);
+    NUMBER(protect(&m, 25, 1), KETTLE_OVERLAP);
+    NUMBER(protect(&m, 65535, 0), KETTLE_ACCEPTED);
+    NUMBER(protect(&m, 65534, 1), KETTLE_ACCEPTED);
+    NUMBER(protect(&m, 300, 1), KETTLE_ACCEPTED);
+    NUMBER(m.block.at[KETTLE_BLOCK_PROTECTED], 8);
+    NUMBER(protect(&m, 1, 65535), KETTLE_RANGE_OVERFLOW); /* 12 before 13 before 14 */
+    NUMBER(protect(&m, 300, 1), KETTLE_OVERLAP);
+    NUMBER(protect(&m, 400, 1), KETTLE_TABLE_FULL);
     discard(&m);
 }
 
 static void devices(void)
 {
     struct machine m = machine(0, 40, 46, 0);
-    NUMBER(device(&m, 100, 16), SK_ACCEPTED);
-    NUMBER(device(&m, 116, 1), SK_OVERLAP); /* devices may not touch */
-    NUMBER(device(&m, 117, 1), SK_ACCEPTED);
-    NUMBER(device(&m, 99, 0), SK_ACCEPTED);
-    NUMBER(device(&m, 98, 1), SK_OVERLAP);
-    NUMBER(device(&m, 99, 0), SK_OVERLAP);
-    NUMBER(device(&m, 100, 24), SK_OVERLAP); /* 13 before 17 */
-    NUMBER(device(&m, 200, 24), SK_NO_DEVICE_ROOM);
-    NUMBER(device(&m, 200, 23), SK_ACCEPTED);
-    NUMBER(device(&m, 300, 1), SK_NO_DEVICE_ROOM);
+    NUMBER(device(&m, 100, 16), KETTLE_ACCEPTED);
+    NUMBER(device(&m, 116, 1), KETTLE_OVERLAP); /* devices may not touch */
+    NUMBER(device(&m, 117, 1), KETTLE_ACCEPTED);
+    NUMBER(device(&m, 99, 0), KETTLE_ACCEPTED);
+    NUMBER(device(&m, 98, 1), KETTLE_OVERLAP);
+    NUMBER(device(&m, 99, 0), KETTLE_OVERLAP);
+    NUMBER(device(&m, 100, 24), KETTLE_OVERLAP); /* 13 before 17 */
+    NUMBER(device(&m, 200, 24), KETTLE_NO_DEVICE_ROOM);
+    NUMBER(device(&m, 200, 23), KETTLE_ACCEPTED);
+    NUMBER(device(&m, 300, 1), KETTLE_NO_DEVICE_ROOM);
     for (size_t i = 0; i < 4; i++)
-        NUMBER(device(&m, 300 + 2 * i, 0), SK_ACCEPTED);
-    NUMBER(m.block.at[SK_BLOCK_DEVICE_COUNT], 8);
-    NUMBER(device(&m, 400, 1), SK_TABLE_FULL); /* 14 before 17 */
-    NUMBER(device(&m, 306, 0), SK_OVERLAP);
-    NUMBER(device(&m, 65535, 1), SK_RANGE_OVERFLOW);
+        NUMBER(device(&m, 300 + 2 * i, 0), KETTLE_ACCEPTED);
+    NUMBER(m.block.at[KETTLE_BLOCK_DEVICE_COUNT], 8);
+    NUMBER(device(&m, 400, 1), KETTLE_TABLE_FULL); /* 14 before 17 */
+    NUMBER(device(&m, 306, 0), KETTLE_OVERLAP);
+    NUMBER(device(&m, 65535, 1), KETTLE_RANGE_OVERFLOW);
     discard(&m);
 }
 
@@ -114,7 +114,7 @@ static void any_tables(void)
                 NUMBER(protect(&m, start, len), ref_protect(&want, start, len));
             else
                 NUMBER(device(&m, start, len), ref_device(&want, start, len));
-            CHECK(memcmp(m.block.at, want.block.at, SK_BLOCK_SIZE) == 0);
+            CHECK(memcmp(m.block.at, want.block.at, KETTLE_BLOCK_SIZE) == 0);
             CHECK(is_valid(&m));
         }
         discard(&m);

@@ -30,7 +30,7 @@ static void word(const char *line, unsigned want)
     struct bytes words = lend(64);
     for (int strict = 0; strict < 2; strict++) {
         NUMBER(assembled(line, strict, &words), counts(1, 0, 0));
-        NUMBER(sk_word(words.at), want);
+        NUMBER(kettle_word(words.at), want);
     }
     give_back(&words);
 }
@@ -53,12 +53,12 @@ static void cut_or_refused(void)
     struct bytes words = lend(64);
     /* plain assembly cuts what does not fit, strict assembly refuses it, for each value that is not 0 */
     NUMBER(assembled("MOV C, #300", 0, &words), counts(1, 0, 0));
-    NUMBER(sk_word(words.at), 0x2c21);
+    NUMBER(kettle_word(words.at), 0x2c21);
     NUMBER(assembled("JMP #2048", 0, &words), counts(1, 0, 0));
-    NUMBER(sk_word(words.at), 0x0006);
+    NUMBER(kettle_word(words.at), 0x0006);
     for (int strict = 1; strict < 256; strict++) {
-        NUMBER(assembled("\n\nMOV C, #300", strict, &words), at_line(SK_FIELD_TOO_WIDE, 3));
-        NUMBER(assembled("JMP #2048", strict, &words), at_line(SK_FIELD_TOO_WIDE, 1));
+        NUMBER(assembled("\n\nMOV C, #300", strict, &words), at_line(KETTLE_FIELD_TOO_WIDE, 3));
+        NUMBER(assembled("JMP #2048", strict, &words), at_line(KETTLE_FIELD_TOO_WIDE, 1));
     }
     give_back(&words);
 }
@@ -69,20 +69,20 @@ static void labels(void)
     NUMBER(assembled("", 0, &words), counts(0, 0, 0));
     NUMBER(assembled("\n; nothing\n \t\n", 1, &words), counts(0, 0, 0));
     NUMBER(assembled("a:\nJMP b\nJMP a\nb:\nCALL b\n", 1, &words), counts(3, 0, 2));
-    NUMBER(sk_word(words.at), 0x0086);     /* JMP #4 */
-    NUMBER(sk_word(words.at + 2), 0x0006); /* JMP #0 */
-    NUMBER(sk_word(words.at + 4), 0x008b); /* CALL #4 */
+    NUMBER(kettle_word(words.at), 0x0086);     /* JMP #4 */
+    NUMBER(kettle_word(words.at + 2), 0x0006); /* JMP #0 */
+    NUMBER(kettle_word(words.at + 4), 0x008b); /* CALL #4 */
     /* references that nothing defines are words 0, and are counted */
     NUMBER(assembled("JMP x\nCALL y\nMOV A, #5\nCJP x\nz:", 1, &words), counts(4, 3, 1));
     CHECK(memcmp(words.at, "\0\0\0\0\1\5\0\0", 8) == 0);
     /* a later definition counts from there on, and is no new label */
     NUMBER(assembled("DBG\na:\nJMP a\na:\nJMP a\n", 1, &words), counts(3, 0, 1));
-    NUMBER(sk_word(words.at + 2), 0x0046);
-    NUMBER(sk_word(words.at + 4), 0x0086);
+    NUMBER(kettle_word(words.at + 2), 0x0046);
+    NUMBER(kettle_word(words.at + 4), 0x0086);
     give_back(&words);
 }
 
-/* SK_INVALID_FORMAT (23) and SK_UNRESOLVED_LABEL (25) are those of a single line, which no function of the header reads. */
+/* KETTLE_INVALID_FORMAT (23) and KETTLE_UNRESOLVED_LABEL (25) are those of a single line, which no function of the header reads. */
 static void refused(const char *source, unsigned number, unsigned line)
 {
     struct bytes words = lend(64);
@@ -93,30 +93,30 @@ static void refused(const char *source, unsigned number, unsigned line)
 
 static void refusals(void)
 {
-    refused("MOV Q, #1", SK_INVALID_REGISTER, 1);
-    refused("DBG\n\nMOV a, #1\n", SK_INVALID_REGISTER, 3);
-    refused("MOV X, #70000", SK_INVALID_REGISTER, 1);
-    refused("ADD A", SK_INVALID_OPERANDS, 1);
-    refused("; x\nLDR A, [B\n", SK_INVALID_OPERANDS, 2);
-    refused("FOO A, B", SK_INVALID_INSTRUCTION, 1);
-    refused("DBG\nDBG\nDBG\nMOV A", SK_INVALID_INSTRUCTION, 4);
-    refused("NOOP", SK_INVALID_INSTRUCTION, 1);
-    refused("MOV A, #5 ; x", SK_INVALID_INSTRUCTION, 1);
-    refused("MSL A, [#1 #256]", SK_INVALID_INSTRUCTION, 1);
-    refused("MOV A, #65536", SK_INVALID_IMMEDIATE, 1);
-    refused("l:\nMOV A, #x", SK_INVALID_IMMEDIATE, 2);
-    refused("JMP #", SK_INVALID_IMMEDIATE, 1);
-    refused("LDR A, [B #256]", SK_INVALID_IMMEDIATE, 1);
+    refused("MOV Q, #1", KETTLE_INVALID_REGISTER, 1);
+    refused("DBG\n\nMOV a, #1\n", KETTLE_INVALID_REGISTER, 3);
+    refused("MOV X, #70000", KETTLE_INVALID_REGISTER, 1);
+    refused("ADD A", KETTLE_INVALID_OPERANDS, 1);
+    refused("; x\nLDR A, [B\n", KETTLE_INVALID_OPERANDS, 2);
+    refused("FOO A, B", KETTLE_INVALID_INSTRUCTION, 1);
+    refused("DBG\nDBG\nDBG\nMOV A", KETTLE_INVALID_INSTRUCTION, 4);
+    refused("NOOP", KETTLE_INVALID_INSTRUCTION, 1);
+    refused("MOV A, #5 ; x", KETTLE_INVALID_INSTRUCTION, 1);
+    refused("MSL A, [#1 #256]", KETTLE_INVALID_INSTRUCTION, 1);
+    refused("MOV A, #65536", KETTLE_INVALID_IMMEDIATE, 1);
+    refused("l:\nMOV A, #x", KETTLE_INVALID_IMMEDIATE, 2);
+    refused("JMP #", KETTLE_INVALID_IMMEDIATE, 1);
+    refused("LDR A, [B #256]", KETTLE_INVALID_IMMEDIATE, 1);
     /* a byte over 127 comes before all else, with its own line */
-    refused("FOO\nMOV Q\n; caf\xc3\xa9\n", SK_NOT_ASCII, 3);
-    refused("\x80", SK_NOT_ASCII, 1);
-    refused("\n\n\n\xff", SK_NOT_ASCII, 4);
+    refused("FOO\nMOV Q\n; caf\xc3\xa9\n", KETTLE_NOT_ASCII, 3);
+    refused("\x80", KETTLE_NOT_ASCII, 1);
+    refused("\n\n\n\xff", KETTLE_NOT_ASCII, 4);
     struct bytes text = lend_text("DBG\n; x?\n"), words = lend(64);
     for (int value = 0; value < 256; value++) {
         during("a byte in a comment", value, 0, 0);
         text.at[7] = (uint8_t)value;
         /* a comment that ends in a colon is still one */
-        NUMBER(assemble(&text, 1, &words), value > 127 ? at_line(SK_NOT_ASCII, 2) : counts(1, 0, 0));
+        NUMBER(assemble(&text, 1, &words), value > 127 ? at_line(KETTLE_NOT_ASCII, 2) : counts(1, 0, 0));
     }
     give_back(&text);
     give_back(&words);
@@ -137,14 +137,14 @@ static void incident(void)
         unsigned far = 2 * (fill + 1);
         during("the incident, words between", (long)fill, 0, 0);
         NUMBER(assemble(&text, 0, &words), counts(fill + 1, 0, 1));
-        NUMBER(sk_word(words.at), (far & 2047) << 5 | 6);
-        NUMBER(assemble(&text, 1, &words), far <= 2047 ? counts(fill + 1, 0, 1) : at_line(SK_FIELD_TOO_WIDE, fill + 2));
+        NUMBER(kettle_word(words.at), (far & 2047) << 5 | 6);
+        NUMBER(assemble(&text, 1, &words), far <= 2047 ? counts(fill + 1, 0, 1) : at_line(KETTLE_FIELD_TOO_WIDE, fill + 2));
         /* a reference to a label known to be too far is refused at its own line */
         memcpy(p, "DBG    \n", 8);
         struct bytes again = lend(len + 8);
         memcpy(again.at, text.at, len);
         memcpy(again.at + len, "CALL end", 8);
-        NUMBER(assemble(&again, 1, &words), far <= 2047 ? counts(fill + 2, 0, 1) : at_line(SK_FIELD_TOO_WIDE, fill + 3));
+        NUMBER(assemble(&again, 1, &words), far <= 2047 ? counts(fill + 2, 0, 1) : at_line(KETTLE_FIELD_TOO_WIDE, fill + 3));
         give_back(&again);
         give_back(&text);
         give_back(&words);
@@ -157,19 +157,19 @@ static void rooms(void)
     for (size_t len = 0; len <= 9; len++) {
         struct bytes words = lend(len);
         during("words of length", (long)len, 0, 0);
-        uint64_t full = at_line(SK_PROGRAM_FULL, len / 2 + 1);
-        NUMBER(assemble(&one, 1, &words), len % 2 == 1 ? SK_BAD_BLOCK : len < 4 ? full : counts(2, 0, 0));
-        NUMBER(assemble(&none, 1, &words), len % 2 == 1 ? SK_BAD_BLOCK : counts(0, 0, 1));
-        NUMBER(assemble(&odd_text, 1, &words), len % 2 == 1 ? SK_BAD_BLOCK : at_line(SK_NOT_ASCII, 1));
+        uint64_t full = at_line(KETTLE_PROGRAM_FULL, len / 2 + 1);
+        NUMBER(assemble(&one, 1, &words), len % 2 == 1 ? KETTLE_BAD_BLOCK : len < 4 ? full : counts(2, 0, 0));
+        NUMBER(assemble(&none, 1, &words), len % 2 == 1 ? KETTLE_BAD_BLOCK : counts(0, 0, 1));
+        NUMBER(assemble(&odd_text, 1, &words), len % 2 == 1 ? KETTLE_BAD_BLOCK : at_line(KETTLE_NOT_ASCII, 1));
         give_back(&words);
     }
     static const size_t big[] = {65532, 65534, 65536, 65538, 100000, 1000000, 65535, 65537, 999999};
     for (size_t i = 0; i < sizeof big / sizeof *big; i++) {
         struct bytes words = lend(big[i]);
-        NUMBER(assemble(&one, 1, &words), i < 6 ? counts(2, 0, 0) : SK_BAD_BLOCK);
+        NUMBER(assemble(&one, 1, &words), i < 6 ? counts(2, 0, 0) : KETTLE_BAD_BLOCK);
         if (i < 6)
             CHECK(memcmp(words.at, "\1\5\21\6", 4) == 0 && all_are(words.at + 4, big[i] - 4, 0));
-        NUMBER(assemble(&odd_text, 1, &words), i < 6 ? at_line(SK_NOT_ASCII, 1) : SK_BAD_BLOCK);
+        NUMBER(assemble(&odd_text, 1, &words), i < 6 ? at_line(KETTLE_NOT_ASCII, 1) : KETTLE_BAD_BLOCK);
         give_back(&words);
     }
     give_back(&one);

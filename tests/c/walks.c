@@ -56,30 +56,30 @@ static void set_out(struct machine *m)
 {
     for (size_t r = 0; r < 8; r++) {
         unsigned value = any_below(6) == 0 ? any_below(65536) : any_below(MEMORY + 8);
-        if (r == SK_PC)
+        if (r == KETTLE_PC)
             value = 2 * any_below(MEMORY / 2);
-        if (r == SK_FLAGS)
+        if (r == KETTLE_FLAGS)
             value = any_below(8) << 1;
-        NUMBER(set(m, r, (uint16_t)value), SK_ACCEPTED);
+        NUMBER(set(m, r, (uint16_t)value), KETTLE_ACCEPTED);
     }
     depth = 0;
 }
 
 static bool is_accepted(uint64_t answer)
 {
-    return sk_code(answer) == SK_ACCEPTED || sk_code(answer) == SK_DEBUG;
+    return kettle_code(answer) == KETTLE_ACCEPTED || kettle_code(answer) == KETTLE_DEBUG;
 }
 
 /* a run is so many steps: they are made one by one on a copy */
 static bool running(struct machine *m, struct machine *copy, uint32_t steps)
 {
-    memcpy(copy->block.at, m->block.at, SK_BLOCK_SIZE);
+    memcpy(copy->block.at, m->block.at, KETTLE_BLOCK_SIZE);
     memcpy(copy->memory.at, m->memory.at, MEMORY);
     memcpy(copy->devices.at, m->devices.at, DEVICES);
     if (m->journal.len > 0)
         memcpy(copy->journal.at, m->journal.at, m->journal.len);
-    uint64_t answer = SK_ACCEPTED, count = 0;
-    while (count < steps && answer == SK_ACCEPTED) {
+    uint64_t answer = KETTLE_ACCEPTED, count = 0;
+    while (count < steps && answer == KETTLE_ACCEPTED) {
         struct past p = now(copy);
         answer = step(copy);
         if (is_accepted(answer)) {
@@ -88,7 +88,7 @@ static bool running(struct machine *m, struct machine *copy, uint32_t steps)
         }
     }
     NUMBER(run(m, steps), answer | count << 16);
-    CHECK(memcmp(copy->block.at, m->block.at, SK_BLOCK_SIZE) == 0);
+    CHECK(memcmp(copy->block.at, m->block.at, KETTLE_BLOCK_SIZE) == 0);
     CHECK(memcmp(copy->memory.at, m->memory.at, MEMORY) == 0);
     CHECK(memcmp(copy->devices.at, m->devices.at, DEVICES) == 0);
     CHECK(m->journal.len == 0 || memcmp(copy->journal.at, m->journal.at, m->journal.len) == 0);
@@ -107,8 +107,8 @@ static bool stepping(struct machine *m)
 static void stepping_back(struct machine *m)
 {
     uint64_t answer = back(m);
-    NUMBER(answer, depth > 0 ? SK_ACCEPTED : SK_NOTHING_TO_UNDO);
-    if (answer != SK_ACCEPTED)
+    NUMBER(answer, depth > 0 ? KETTLE_ACCEPTED : KETTLE_NOTHING_TO_UNDO);
+    if (answer != KETTLE_ACCEPTED)
         return;
     struct past p = now(m);
     CHECK(memcmp(&p, &stack[--depth], sizeof p) == 0);
@@ -118,7 +118,7 @@ void test_walks(void)
 {
     for (int walk = 0; walk < 400; walk++) {
         room = any_below(5) == 0 ? DEEP : any_below(8);
-        size_t journal = room * SK_RECORD_SIZE + any_below(SK_RECORD_SIZE);
+        size_t journal = room * KETTLE_RECORD_SIZE + any_below(KETTLE_RECORD_SIZE);
         int debug = (int)any_below(2);
         struct machine m = machine(MEMORY, DEVICES, journal, debug), copy = machine(MEMORY, DEVICES, journal, debug);
         any_program(&m);
@@ -138,7 +138,7 @@ void test_walks(void)
                 goes_on = running(&m, &copy, any_below(12));
             else
                 stepping_back(&m);
-            NUMBER(sk_held(m.block.at), depth);
+            NUMBER(kettle_held(m.block.at), depth);
             if (!goes_on && any_below(3) == 0)
                 set_out(&m);
         }

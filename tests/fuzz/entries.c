@@ -6,7 +6,7 @@
  * is compared: with rules.h, and with the library itself (a run with single steps, a step with its step back, plain with strict
  * assembly, a listing with the words). Whatever differs aborts.
  *
- * SK_BLOCKS names the file that tests/fuzz/blocks wrote; SK_COVERED one for what was reached.
+ * KETTLE_BLOCKS names the file that tests/fuzz/blocks wrote; KETTLE_COVERED one for what was reached.
  */
 #include "lent.h"
 #include "rules.h"
@@ -18,7 +18,7 @@ enum {
     STEPS_MOST = 10000, /* steps of an input */
     TEXT_MOST = 131200,
     WORDS_MOST = 65602,
-    OUT_MOST = SK_LISTING_MOST,
+    OUT_MOST = KETTLE_LISTING_MOST,
     BUFFER_MOST = 66047,
     STATES = 1 << 15
 };
@@ -28,8 +28,8 @@ enum entry {
 };
 
 static const char *const entry_names[ENTRIES] = {
-    "sk_assemble", "sk_load", "sk_step", "sk_run", "sk_step_back", "sk_set_register", "sk_protect", "sk_device", "sk_forget",
-    "sk_read", "sk_list"
+    "kettle_assemble", "kettle_load", "kettle_step", "kettle_run", "kettle_step_back", "kettle_set_register", "kettle_protect", "kettle_device", "kettle_forget",
+    "kettle_read", "kettle_list"
 };
 
 static struct lent block, memory, devices, journal, words, text, out, buffer;
@@ -84,8 +84,8 @@ static void larger(uint64_t *most, uint64_t n)
 /* every answer comes by here */
 static uint64_t answered(enum entry e, uint64_t answer)
 {
-    unsigned code = sk_code(answer);
-    DEMAND(code <= SK_BAD_BLOCK || code == SK_DEBUG || code == SK_STOP);
+    unsigned code = kettle_code(answer);
+    DEMAND(code <= KETTLE_BAD_BLOCK || code == KETTLE_DEBUG || code == KETTLE_STOP);
     DEMAND(fenced(&block) && fenced(&memory) && fenced(&devices) && fenced(&journal));
     DEMAND(fenced(&words) && fenced(&text) && fenced(&out) && fenced(&buffer));
     calls[e]++;
@@ -96,7 +96,7 @@ static uint64_t answered(enum entry e, uint64_t answer)
 
 static void report(void)
 {
-    const char *path = getenv("SK_COVERED");
+    const char *path = getenv("KETTLE_COVERED");
     FILE *file = path ? fopen(path, "w") : NULL;
     if (!file)
         return;
@@ -177,17 +177,17 @@ static uint64_t one_step(void)
     look(&before);
     copy_whole(&want, &before);
     uint64_t rule = step_rule(&want, &word, &kind);
-    uint64_t answer = answered(STEP, sk_step(MACHINE));
+    uint64_t answer = answered(STEP, kettle_step(MACHINE));
     DEMAND(answer == rule);
     DEMAND(is_now(&want));
-    if (answer == 0 || answer == SK_DEBUG) {
+    if (answer == 0 || answer == KETTLE_DEBUG) {
         DEMAND(is_valid(&want));
         if (slots(&want))
             kinds[kind]++;
     }
     /* how instructions were answered, where one was fetched */
-    unsigned op = word & 15, flags = before.block_len > 15 ? reg(&before, SK_FLAGS) & 15 : 0, code = sk_code(answer);
-    if (fetch_rule(&before, &word) == 0 || (code >= SK_BAD_OPCODE && code <= SK_BAD_ARITH))
+    unsigned op = word & 15, flags = before.block_len > 15 ? reg(&before, KETTLE_FLAGS) & 15 : 0, code = kettle_code(answer);
+    if (fetch_rule(&before, &word) == 0 || (code >= KETTLE_BAD_OPCODE && code <= KETTLE_BAD_ARITH))
         stepped[op][code]++;
     reached(100 + op, code, kind, flags);
     reached(200 + op, code, word >> 7 & 15, before.block_len > 16 && before.block[16]);
@@ -198,18 +198,18 @@ static uint64_t one_step(void)
 static void do_step(void)
 {
     uint64_t answer = one_step();
-    if (answer != 0 && answer != SK_DEBUG)
+    if (answer != 0 && answer != KETTLE_DEBUG)
         return;
     look(&want);
-    uint64_t back = answered(STEP_BACK, sk_step_back(MACHINE));
+    uint64_t back = answered(STEP_BACK, kettle_step_back(MACHINE));
     if (slots(&before)) {
-        unsigned held = sk_held(before.block), most = slots(&before);
+        unsigned held = kettle_held(before.block), most = slots(&before);
         DEMAND(back == 0 && bytes_are(&before));
-        DEMAND(!memcmp(block.at, before.block, SK_BLOCK_HELD));
-        DEMAND(sk_held(block.at) == (held < most ? held : most - 1));
+        DEMAND(!memcmp(block.at, before.block, KETTLE_BLOCK_HELD));
+        DEMAND(kettle_held(block.at) == (held < most ? held : most - 1));
         DEMAND(!memcmp(journal.at, want.journal, journal.len));
     } else {
-        DEMAND(back == SK_NOTHING_TO_UNDO && is_now(&want));
+        DEMAND(back == KETTLE_NOTHING_TO_UNDO && is_now(&want));
     }
     put_back(&want);
 }
@@ -220,8 +220,8 @@ static uint32_t steps_left; /* of this input, so that none takes long */
 /* One step of a long run. */
 static uint64_t plain_step(void)
 {
-    uint64_t answer = answered(STEP, sk_step(MACHINE));
-    reached(310, sk_code(answer), 0, 0);
+    uint64_t answer = answered(STEP, kettle_step(MACHINE));
+    reached(310, kettle_code(answer), 0, 0);
     return answer;
 }
 
@@ -239,21 +239,21 @@ static void do_run(uint32_t steps)
     uint32_t count = 0;
     while (!single && count < steps) {
         single = count < CLOSELY ? one_step() : plain_step();
-        count += single == 0 || single == SK_DEBUG;
+        count += single == 0 || single == KETTLE_DEBUG;
     }
     if (endless && single)
         steps = UINT32_MAX;
     look(&run_after);
     put_back(&run_before);
-    uint64_t answer = answered(RUN, sk_run(MACHINE, steps));
+    uint64_t answer = answered(RUN, kettle_run(MACHINE, steps));
     DEMAND(answer == (single | (uint64_t)count << 16));
     DEMAND(is_now(&run_after));
     larger(&longest_run, count);
-    reached(300, sk_code(answer), magnitude(count), steps == UINT32_MAX);
+    reached(300, kettle_code(answer), magnitude(count), steps == UINT32_MAX);
     if (count && count <= slots(&run_before)) {
         for (uint32_t i = 0; i < count; i++)
-            DEMAND(answered(STEP_BACK, sk_step_back(MACHINE)) == 0);
-        DEMAND(bytes_are(&run_before) && !memcmp(block.at, run_before.block, SK_BLOCK_HELD));
+            DEMAND(answered(STEP_BACK, kettle_step_back(MACHINE)) == 0);
+        DEMAND(bytes_are(&run_before) && !memcmp(block.at, run_before.block, KETTLE_BLOCK_HELD));
         larger(&most_back, count);
     }
     put_back(&run_after);
@@ -265,9 +265,9 @@ static uint64_t by_rule(enum entry e, uint64_t rule, uint64_t answer)
     answered(e, answer);
     DEMAND(answer == rule);
     DEMAND(is_now(&want));
-    if (want.block_len > SK_BLOCK_DEVICE_COUNT)
-        reached(400 + e, sk_code(answer), want.block[SK_BLOCK_PROTECTED], want.block[SK_BLOCK_DEVICE_COUNT]);
-    reached(500 + e, sk_code(answer), magnitude(sk_above(answer)), 0);
+    if (want.block_len > KETTLE_BLOCK_DEVICE_COUNT)
+        reached(400 + e, kettle_code(answer), want.block[KETTLE_BLOCK_PROTECTED], want.block[KETTLE_BLOCK_DEVICE_COUNT]);
+    reached(500 + e, kettle_code(answer), magnitude(kettle_above(answer)), 0);
     return answer;
 }
 
@@ -275,10 +275,10 @@ static void do_step_back(void)
 {
     unsigned kind = 4;
     look(&want);
-    if (!unfit(&want) && sk_held(want.block))
-        kind = want.journal[(next_slot(&want) + slots(&want) - 1) % slots(&want) * SK_RECORD_SIZE];
-    uint64_t answer = by_rule(STEP_BACK, step_back_rule(&want), sk_step_back(MACHINE));
-    reached(600, kind < 4 ? kind : 4, sk_code(answer), 0);
+    if (!unfit(&want) && kettle_held(want.block))
+        kind = want.journal[(next_slot(&want) + slots(&want) - 1) % slots(&want) * KETTLE_RECORD_SIZE];
+    uint64_t answer = by_rule(STEP_BACK, step_back_rule(&want), kettle_step_back(MACHINE));
+    reached(600, kind < 4 ? kind : 4, kettle_code(answer), 0);
 }
 
 static void do_read(size_t start, size_t size, size_t room)
@@ -288,7 +288,7 @@ static void do_read(size_t start, size_t size, size_t room)
     memset(buffer.at, FRESH_BYTE, room);
     memset(expected, FRESH_BYTE, room);
     look(&want);
-    by_rule(READ, read_rule(&want, start, size, expected, room), sk_read(MACHINE, start, size, BYTES(buffer)));
+    by_rule(READ, read_rule(&want, start, size, expected, room), kettle_read(MACHINE, start, size, BYTES(buffer)));
     DEMAND(!memcmp(buffer.at, expected, room));
 }
 
@@ -297,7 +297,7 @@ static void do_load(const uint8_t *bytes, size_t len)
     lend(&words, len, low);
     memcpy(words.at, bytes, len);
     look(&want);
-    uint64_t answer = by_rule(LOAD, load_rule(&want, bytes, len), sk_load(MACHINE, BYTES(words)));
+    uint64_t answer = by_rule(LOAD, load_rule(&want, bytes, len), kettle_load(MACHINE, BYTES(words)));
     DEMAND(!memcmp(words.at, bytes, len));
     if (answer == 0 && len <= 65535) {
         /* what was loaded is what is read */
@@ -326,25 +326,25 @@ static uint64_t assembled(uint8_t strict, size_t words_len)
 {
     lend(&words, words_len, low);
     memset(words.at, FRESH_BYTE, words_len);
-    uint64_t answer = answered(ASSEMBLE, sk_assemble(BYTES(text), strict, BYTES(words)));
-    unsigned code = sk_code(answer);
+    uint64_t answer = answered(ASSEMBLE, kettle_assemble(BYTES(text), strict, BYTES(words)));
+    unsigned code = kettle_code(answer);
     if (words_len % 2) {
-        DEMAND(answer == SK_BAD_BLOCK && all(words.at, words_len, FRESH_BYTE));
+        DEMAND(answer == KETTLE_BAD_BLOCK && all(words.at, words_len, FRESH_BYTE));
     } else if (code == 0) {
-        DEMAND(sk_words(answer) <= words_len / 2 && sk_words(answer) <= SK_WORDS_MOST);
-        DEMAND(sk_open(answer) <= 512 && sk_labels(answer) <= 1024);
-        DEMAND(all(words.at + 2 * sk_words(answer), words_len - 2 * sk_words(answer), 0));
-        larger(&most_words, sk_words(answer));
-        larger(&most_open, sk_open(answer));
-        larger(&most_labels, sk_labels(answer));
-        reached(700, magnitude(sk_words(answer)), magnitude(sk_open(answer)), magnitude(sk_labels(answer)));
+        DEMAND(kettle_words(answer) <= words_len / 2 && kettle_words(answer) <= KETTLE_WORDS_MOST);
+        DEMAND(kettle_open(answer) <= 512 && kettle_labels(answer) <= 1024);
+        DEMAND(all(words.at + 2 * kettle_words(answer), words_len - 2 * kettle_words(answer), 0));
+        larger(&most_words, kettle_words(answer));
+        larger(&most_open, kettle_open(answer));
+        larger(&most_labels, kettle_labels(answer));
+        reached(700, magnitude(kettle_words(answer)), magnitude(kettle_open(answer)), magnitude(kettle_labels(answer)));
     } else {
-        DEMAND((code >= SK_INVALID_REGISTER && code <= SK_INVALID_INSTRUCTION) || code == SK_INVALID_IMMEDIATE
-               || (code >= SK_NOT_ASCII && code <= SK_FIELD_TOO_WIDE));
-        DEMAND(strict || code != SK_FIELD_TOO_WIDE);
-        DEMAND(sk_above(answer) >= 1 && sk_above(answer) <= lines_in(text.at, text.len));
+        DEMAND((code >= KETTLE_INVALID_REGISTER && code <= KETTLE_INVALID_INSTRUCTION) || code == KETTLE_INVALID_IMMEDIATE
+               || (code >= KETTLE_NOT_ASCII && code <= KETTLE_FIELD_TOO_WIDE));
+        DEMAND(strict || code != KETTLE_FIELD_TOO_WIDE);
+        DEMAND(kettle_above(answer) >= 1 && kettle_above(answer) <= lines_in(text.at, text.len));
         DEMAND(all(words.at, words_len, 0));
-        reached(701, code, magnitude(sk_above(answer)), strict != 0);
+        reached(701, code, magnitude(kettle_above(answer)), strict != 0);
     }
     return answer;
 }
@@ -369,26 +369,26 @@ static void lend_out(size_t len)
 /* The listing beside the strictly assembled words. */
 static void do_list(size_t room)
 {
-    uint64_t by_words = assembled(1, 2 * SK_WORDS_MOST);
+    uint64_t by_words = assembled(1, 2 * KETTLE_WORDS_MOST);
     lend_out(OUT_MOST);
-    uint64_t answer = answered(LIST, sk_list(BYTES(text), BYTES(out)));
-    DEMAND(sk_code(answer) == 0);
-    size_t len = sk_above(answer), at = 0;
+    uint64_t answer = answered(LIST, kettle_list(BYTES(text), BYTES(out)));
+    DEMAND(kettle_code(answer) == 0);
+    size_t len = kettle_above(answer), at = 0;
     DEMAND(len <= OUT_MOST && all(out.at + len, at_most(OUT_MOST - len, 4096), FRESH_BYTE));
     char last[64];
     if (text.len > 65536) {
         snprintf(last, sizeof last, "refused 19 line 0\n");
-    } else if (sk_code(by_words)) {
-        snprintf(last, sizeof last, "refused %u line %llu\n", sk_code(by_words), (unsigned long long)sk_above(by_words));
+    } else if (kettle_code(by_words)) {
+        snprintf(last, sizeof last, "refused %u line %llu\n", kettle_code(by_words), (unsigned long long)kettle_above(by_words));
     } else {
-        for (unsigned i = 0; i < sk_words(by_words); i++) {
+        for (unsigned i = 0; i < kettle_words(by_words); i++) {
             DEMAND(len - at > 10 && hex_digits(out.at + at) == 2 * i && out.at[at + 4] == ' ' && out.at[at + 9] == ' ');
-            DEMAND(hex_digits(out.at + at + 5) == sk_word(words.at + 2 * i));
+            DEMAND(hex_digits(out.at + at + 5) == kettle_word(words.at + 2 * i));
             uint8_t *end = (uint8_t *)memchr(out.at + at, '\n', len - at);
             DEMAND(end && end > out.at + at + 10);
             at = (size_t)(end - out.at) + 1;
         }
-        snprintf(last, sizeof last, "words %u open %u\n", sk_words(by_words), sk_open(by_words));
+        snprintf(last, sizeof last, "words %u open %u\n", kettle_words(by_words), kettle_open(by_words));
     }
     DEMAND(len - at == strlen(last) && !memcmp(out.at + at, last, len - at));
     larger(&longest_listing, len);
@@ -399,9 +399,9 @@ static void do_list(size_t room)
     size_t rooms[3] = {len, len - 1, room};
     for (int i = 0; i < 3; i++) {
         lend_out(rooms[i]);
-        uint64_t again = answered(LIST, sk_list(BYTES(text), BYTES(out)));
+        uint64_t again = answered(LIST, kettle_list(BYTES(text), BYTES(out)));
         if (rooms[i] < len) {
-            DEMAND(again == SK_NO_ROOM && all(out.at, rooms[i], FRESH_BYTE));
+            DEMAND(again == KETTLE_NO_ROOM && all(out.at, rooms[i], FRESH_BYTE));
         } else {
             DEMAND(again == answer && !memcmp(out.at, listing, len));
             DEMAND(all(out.at + len, at_most(rooms[i] - len, 4096), FRESH_BYTE));
@@ -422,11 +422,11 @@ static uint64_t do_assemble(uint8_t strict, size_t words_len)
         DEMAND(assembled(1, words_len) == strictly && !memcmp(words.at, kept, words_len));
     uint64_t plainly = assembled(0, words_len);
     larger(&longest_text, text.len);
-    if (sk_code(strictly) != SK_FIELD_TOO_WIDE) {
+    if (kettle_code(strictly) != KETTLE_FIELD_TOO_WIDE) {
         DEMAND(plainly == strictly && !memcmp(words.at, kept, words_len));
     } else {
         /* plainly it is refused no earlier */
-        DEMAND(sk_code(plainly) == 0 || sk_above(plainly) >= sk_above(strictly));
+        DEMAND(kettle_code(plainly) == 0 || kettle_above(plainly) >= kettle_above(strictly));
     }
     return plainly;
 }
@@ -539,7 +539,7 @@ static void call(unsigned which)
         do_load(bytes, 2 * a);
         break;
     case 5:
-        do_load(bytes, sk_code(plainly) ? 0 : at_most(2 * sk_words(plainly), WORDS_MOST));
+        do_load(bytes, kettle_code(plainly) ? 0 : at_most(2 * kettle_words(plainly), WORDS_MOST));
         break;
     case 6: do_step(); break;
     case 7: do_run((uint32_t)take(2)); break;
@@ -548,23 +548,23 @@ static void call(unsigned which)
         a = take_size();
         b = take(2);
         look(&want);
-        by_rule(SET_REGISTER, set_register_rule(&want, a, (uint16_t)b), sk_set_register(TABLES, a, (uint16_t)b));
+        by_rule(SET_REGISTER, set_register_rule(&want, a, (uint16_t)b), kettle_set_register(TABLES, a, (uint16_t)b));
         break;
     case 10:
         a = take_size();
         b = take_size();
         look(&want);
-        by_rule(PROTECT, protect_rule(&want, a, b), sk_protect(TABLES, a, b));
+        by_rule(PROTECT, protect_rule(&want, a, b), kettle_protect(TABLES, a, b));
         break;
     case 11:
         a = take_size();
         b = take_size();
         look(&want);
-        by_rule(DEVICE, device_rule(&want, a, b), sk_device(TABLES, a, b));
+        by_rule(DEVICE, device_rule(&want, a, b), kettle_device(TABLES, a, b));
         break;
     case 12:
         look(&want);
-        by_rule(FORGET, forget_rule(&want), sk_forget(TABLES));
+        by_rule(FORGET, forget_rule(&want), kettle_forget(TABLES));
         break;
     case 13:
         a = take_size();
@@ -603,8 +603,8 @@ int LLVMFuzzerInitialize(int *argc, char ***argv)
     make_room(&text, TEXT_MOST);
     make_room(&out, OUT_MOST);
     make_room(&buffer, BUFFER_MOST);
-    if (getenv("SK_BLOCKS"))
-        watch_blocks(getenv("SK_BLOCKS"));
+    if (getenv("KETTLE_BLOCKS"))
+        watch_blocks(getenv("KETTLE_BLOCKS"));
     atexit(report);
     return 0;
 }
@@ -621,8 +621,8 @@ int LLVMFuzzerTestOneInput(const uint8_t *data, size_t size)
     fill(&memory, memory_len + (flags & 2 ? 512 : 0), seed);
     fill(&devices, devices_len + (flags & 4 ? 512 : 0), seed);
     fill(&journal, journal_len + (flags & 8 ? 65536 : 0), seed);
-    lend(&block, SK_BLOCK_SIZE, low);
-    sk_fresh(block.at, flags & 1);
+    lend(&block, KETTLE_BLOCK_SIZE, low);
+    kettle_fresh(block.at, flags & 1);
     lend(&words, 0, low);
     lend(&text, 0, low);
     lend(&buffer, 0, low);

@@ -29,13 +29,13 @@ fuzz-build: $(FUZZ)/entries $(FUZZ)/corpus
 # What is found stays in target/fuzz/found and is tried first the next time; an input that fails goes to target/fuzz/failed.
 fuzz: fuzz-build
 	mkdir -p $(FUZZ)/found $(FUZZ)/failed
-	SK_BLOCKS=$(FUZZ)/blocks.txt SK_COVERED=$(FUZZ)/covered nice $(FUZZ)/entries -max_total_time=$(SECONDS) -max_len=2048 \
+	KETTLE_BLOCKS=$(FUZZ)/blocks.txt KETTLE_COVERED=$(FUZZ)/covered nice $(FUZZ)/entries -max_total_time=$(SECONDS) -max_len=2048 \
 	    -timeout=60 -print_final_stats=1 -dict=tests/fuzz/text.dict -artifact_prefix=$(FUZZ)/failed/ $(FUZZ)/found $(FUZZ)/corpus
 	grep -v '^not reached' $(FUZZ)/covered
 
 # make fuzz-faults: each fault of tests/fuzz/faults.c must be found by the seeds alone.
 FAULTS := $(shell seq 21)
-FAULTY := sk_assemble sk_load sk_step sk_run sk_step_back sk_set_register sk_protect sk_device sk_read sk_list
+FAULTY := kettle_assemble kettle_load kettle_step kettle_run kettle_step_back kettle_set_register kettle_protect kettle_device kettle_read kettle_list
 .PHONY: fuzz-faults
 fuzz-faults: $(FUZZ)/corpus $(FUZZ)/entries.o $(LIB)
 	@set -e; for n in $(FAULTS); do \

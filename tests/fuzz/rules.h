@@ -34,24 +34,24 @@ static void put_word(uint8_t *at, unsigned value)
     at[1] = (uint8_t)(value >> 8);
 }
 
-static unsigned reg(const struct whole *w, enum sk_register r)
+static unsigned reg(const struct whole *w, enum kettle_register r)
 {
-    return sk_register_of(w->block, r);
+    return kettle_register_of(w->block, r);
 }
 
-static unsigned region_count(const struct whole *w) { return w->block[SK_BLOCK_PROTECTED]; }
-static unsigned region_start(const struct whole *w, unsigned i) { return sk_word(w->block + SK_BLOCK_REGIONS + 4 * i); }
-static unsigned region_len(const struct whole *w, unsigned i) { return sk_word(w->block + SK_BLOCK_REGIONS + 4 * i + 2); }
-static unsigned device_count(const struct whole *w) { return w->block[SK_BLOCK_DEVICE_COUNT]; }
-static unsigned device_start(const struct whole *w, unsigned i) { return sk_word(w->block + SK_BLOCK_DEVICES + 4 * i); }
-static unsigned device_end(const struct whole *w, unsigned i) { return sk_word(w->block + SK_BLOCK_DEVICES + 4 * i + 2); }
-static unsigned next_slot(const struct whole *w) { return sk_word(w->block + SK_BLOCK_NEXT); }
+static unsigned region_count(const struct whole *w) { return w->block[KETTLE_BLOCK_PROTECTED]; }
+static unsigned region_start(const struct whole *w, unsigned i) { return kettle_word(w->block + KETTLE_BLOCK_REGIONS + 4 * i); }
+static unsigned region_len(const struct whole *w, unsigned i) { return kettle_word(w->block + KETTLE_BLOCK_REGIONS + 4 * i + 2); }
+static unsigned device_count(const struct whole *w) { return w->block[KETTLE_BLOCK_DEVICE_COUNT]; }
+static unsigned device_start(const struct whole *w, unsigned i) { return kettle_word(w->block + KETTLE_BLOCK_DEVICES + 4 * i); }
+static unsigned device_end(const struct whole *w, unsigned i) { return kettle_word(w->block + KETTLE_BLOCK_DEVICES + 4 * i + 2); }
+static unsigned next_slot(const struct whole *w) { return kettle_word(w->block + KETTLE_BLOCK_NEXT); }
 
 /* how many records the journal has room for */
 static unsigned slots(const struct whole *w)
 {
-    size_t n = w->journal_len / SK_RECORD_SIZE;
-    return n < SK_RECORD_MOST ? (unsigned)n : SK_RECORD_MOST;
+    size_t n = w->journal_len / KETTLE_RECORD_SIZE;
+    return n < KETTLE_RECORD_MOST ? (unsigned)n : KETTLE_RECORD_MOST;
 }
 
 static int regions_overlap(unsigned a, unsigned a_len, unsigned b, unsigned b_len)
@@ -66,7 +66,7 @@ static int devices_overlap(unsigned a, unsigned a_end, unsigned b, unsigned b_en
 
 static int is_block(const struct whole *w)
 {
-    return w->block_len == SK_BLOCK_SIZE && w->block[SK_BLOCK_DEBUG] <= 1;
+    return w->block_len == KETTLE_BLOCK_SIZE && w->block[KETTLE_BLOCK_DEBUG] <= 1;
 }
 
 static size_t devices_used(const struct whole *w)
@@ -98,7 +98,7 @@ static int is_valid(const struct whole *w)
             if (i < devices && devices_overlap(device_start(w, i), device_end(w, i), device_start(w, j), device_end(w, j)))
                 return 0;
         }
-    if (devices_used(w) > w->devices_len || sk_held(w->block) > slots(w))
+    if (devices_used(w) > w->devices_len || kettle_held(w->block) > slots(w))
         return 0;
     return slots(w) ? next_slot(w) < slots(w) : next_slot(w) == 0;
 }
@@ -128,8 +128,8 @@ static uint8_t *taking(struct whole *w, unsigned a)
 
 static void empty_journal(struct whole *w)
 {
-    put_word(w->block + SK_BLOCK_NEXT, 0);
-    put_word(w->block + SK_BLOCK_HELD, 0);
+    put_word(w->block + KETTLE_BLOCK_NEXT, 0);
+    put_word(w->block + KETTLE_BLOCK_HELD, 0);
 }
 
 /* ---- what an entry answers, and what it leaves in w ------------------------------------------------------------------------ */
@@ -137,7 +137,7 @@ static void empty_journal(struct whole *w)
 /* 31 and 1, which come first everywhere; else 0 */
 static uint64_t unfit(const struct whole *w)
 {
-    return !is_block(w) ? SK_BAD_BLOCK : !is_valid(w) ? SK_BAD_STATE : 0;
+    return !is_block(w) ? KETTLE_BAD_BLOCK : !is_valid(w) ? KETTLE_BAD_STATE : 0;
 }
 
 static uint64_t set_register_rule(struct whole *w, size_t number, uint16_t value)
@@ -145,7 +145,7 @@ static uint64_t set_register_rule(struct whole *w, size_t number, uint16_t value
     if (unfit(w))
         return unfit(w);
     if (number > 7)
-        return SK_BAD_REGISTER;
+        return KETTLE_BAD_REGISTER;
     put_word(w->block + 2 * number, value);
     empty_journal(w);
     return 0;
@@ -166,10 +166,10 @@ static int region_meets(const struct whole *w, unsigned start, unsigned len)
 
 static void add_region(struct whole *w, unsigned start, unsigned len)
 {
-    uint8_t *entry = w->block + SK_BLOCK_REGIONS + 4 * region_count(w);
+    uint8_t *entry = w->block + KETTLE_BLOCK_REGIONS + 4 * region_count(w);
     put_word(entry, start);
     put_word(entry + 2, len);
-    w->block[SK_BLOCK_PROTECTED]++;
+    w->block[KETTLE_BLOCK_PROTECTED]++;
 }
 
 static uint64_t protect_rule(struct whole *w, size_t start, size_t len)
@@ -177,11 +177,11 @@ static uint64_t protect_rule(struct whole *w, size_t start, size_t len)
     if (unfit(w))
         return unfit(w);
     if (past_end(start, len))
-        return SK_RANGE_OVERFLOW;
+        return KETTLE_RANGE_OVERFLOW;
     if (region_meets(w, (unsigned)start, (unsigned)len))
-        return SK_OVERLAP;
+        return KETTLE_OVERLAP;
     if (region_count(w) == 8)
-        return SK_TABLE_FULL;
+        return KETTLE_TABLE_FULL;
     add_region(w, (unsigned)start, (unsigned)len);
     empty_journal(w);
     return 0;
@@ -192,18 +192,18 @@ static uint64_t device_rule(struct whole *w, size_t start, size_t size)
     if (unfit(w))
         return unfit(w);
     if (past_end(start, size))
-        return SK_RANGE_OVERFLOW;
+        return KETTLE_RANGE_OVERFLOW;
     for (unsigned i = 0; i < device_count(w); i++)
         if (devices_overlap((unsigned)start, (unsigned)(start + size), device_start(w, i), device_end(w, i)))
-            return SK_OVERLAP;
+            return KETTLE_OVERLAP;
     if (device_count(w) == 8)
-        return SK_TABLE_FULL;
+        return KETTLE_TABLE_FULL;
     if (devices_used(w) + size > w->devices_len)
-        return SK_NO_DEVICE_ROOM;
-    uint8_t *entry = w->block + SK_BLOCK_DEVICES + 4 * device_count(w);
+        return KETTLE_NO_DEVICE_ROOM;
+    uint8_t *entry = w->block + KETTLE_BLOCK_DEVICES + 4 * device_count(w);
     put_word(entry, (unsigned)start);
     put_word(entry + 2, (unsigned)(start + size));
-    w->block[SK_BLOCK_DEVICE_COUNT]++;
+    w->block[KETTLE_BLOCK_DEVICE_COUNT]++;
     empty_journal(w);
     return 0;
 }
@@ -219,22 +219,22 @@ static uint64_t forget_rule(struct whole *w)
 static uint64_t load_rule(struct whole *w, const uint8_t *words, size_t len)
 {
     if (!is_block(w) || len % 2)
-        return SK_BAD_BLOCK;
+        return KETTLE_BAD_BLOCK;
     if (!is_valid(w))
-        return SK_BAD_STATE;
+        return KETTLE_BAD_STATE;
     if (len / 2 > 32768)
-        return SK_TOO_LONG;
+        return KETTLE_TOO_LONG;
     if (region_count(w) == 8)
-        return SK_TABLE_FULL;
+        return KETTLE_TABLE_FULL;
     empty_journal(w);
     for (size_t a = 0; a < len; a++) {
         uint8_t *byte = taking(w, (unsigned)a);
         if (!byte)
-            return SK_WRITE_FAILED;
+            return KETTLE_WRITE_FAILED;
         *byte = words[a];
     }
     if (region_meets(w, 0, (unsigned)(len / 2)))
-        return SK_OVERLAP;
+        return KETTLE_OVERLAP;
     add_region(w, 0, (unsigned)(len / 2));
     return 0;
 }
@@ -244,9 +244,9 @@ static uint64_t read_rule(struct whole *w, size_t start, size_t size, uint8_t *b
     if (unfit(w))
         return unfit(w);
     if (past_end(start, size))
-        return SK_RANGE_OVERFLOW;
+        return KETTLE_RANGE_OVERFLOW;
     if (len < size)
-        return SK_NO_ROOM;
+        return KETTLE_NO_ROOM;
     size_t n = 0;
     for (; n < size && shown(w, (unsigned)(start + n)); n++)
         buffer[n] = *shown(w, (unsigned)(start + n));
@@ -257,24 +257,24 @@ static uint64_t step_back_rule(struct whole *w)
 {
     if (unfit(w))
         return unfit(w);
-    unsigned held = sk_held(w->block), most = slots(w);
+    unsigned held = kettle_held(w->block), most = slots(w);
     if (!held)
-        return SK_NOTHING_TO_UNDO;
+        return KETTLE_NOTHING_TO_UNDO;
     unsigned slot = (next_slot(w) + most - 1) % most;
-    const uint8_t *record = w->journal + (size_t)slot * SK_RECORD_SIZE;
+    const uint8_t *record = w->journal + (size_t)slot * KETTLE_RECORD_SIZE;
     if (record[0] > 2)
-        return SK_BAD_JOURNAL;
-    uint8_t *first = record[0] > 0 ? taking(w, sk_word(record + 17)) : w->memory;
-    uint8_t *second = record[0] > 1 ? taking(w, sk_word(record + 20)) : w->memory;
+        return KETTLE_BAD_JOURNAL;
+    uint8_t *first = record[0] > 0 ? taking(w, kettle_word(record + 17)) : w->memory;
+    uint8_t *second = record[0] > 1 ? taking(w, kettle_word(record + 20)) : w->memory;
     if (!first || !second)
-        return SK_BAD_JOURNAL;
+        return KETTLE_BAD_JOURNAL;
     if (record[0] > 1)
         *second = record[22];
     if (record[0] > 0)
         *first = record[19];
     memcpy(w->block, record + 1, 16);
-    put_word(w->block + SK_BLOCK_NEXT, slot);
-    put_word(w->block + SK_BLOCK_HELD, held - 1);
+    put_word(w->block + KETTLE_BLOCK_NEXT, slot);
+    put_word(w->block + KETTLE_BLOCK_HELD, held - 1);
     return 0;
 }
 
@@ -284,22 +284,22 @@ static uint64_t fetch_rule(struct whole *w, unsigned *word)
     *word = 0;
     if (unfit(w))
         return unfit(w);
-    if (reg(w, SK_FLAGS) & SK_FLAG_HALT)
-        return SK_STOP;
-    unsigned pc = reg(w, SK_PC);
+    if (reg(w, KETTLE_FLAGS) & KETTLE_FLAG_HALT)
+        return KETTLE_STOP;
+    unsigned pc = reg(w, KETTLE_PC);
     if (!shown(w, pc))
-        return SK_FETCH_UNMAPPED;
+        return KETTLE_FETCH_UNMAPPED;
     if (pc == 65535)
-        return SK_ADDRESS_OVERFLOW;
+        return KETTLE_ADDRESS_OVERFLOW;
     if (!shown(w, pc + 1))
-        return SK_FETCH_UNMAPPED;
+        return KETTLE_FETCH_UNMAPPED;
     *word = *shown(w, pc) | (unsigned)*shown(w, pc + 1) << 8;
     if ((*word & 15) > 11)
-        return SK_BAD_OPCODE;
+        return KETTLE_BAD_OPCODE;
     if ((*word & 15) == 7 && (*word >> 7 & 7) > 5)
-        return SK_BAD_COMPARE;
+        return KETTLE_BAD_COMPARE;
     if ((*word & 15) == 10 && (*word >> 7 & 7) > 6)
-        return SK_BAD_ARITH;
+        return KETTLE_BAD_ARITH;
     return 0;
 }
 
@@ -322,7 +322,7 @@ static int store(struct whole *w, struct step *s, unsigned a, unsigned value)
 static void halt_unless(struct step *s, int stored)
 {
     if (!stored)
-        s->r[SK_FLAGS] |= SK_FLAG_HALT | SK_FLAG_FAILED;
+        s->r[KETTLE_FLAGS] |= KETTLE_FLAG_HALT | KETTLE_FLAG_FAILED;
 }
 
 /* the operators by number: add, sub, mul, div, mod, exp, sqrt */
@@ -336,7 +336,7 @@ static uint64_t reckon(unsigned op, uint64_t x, uint64_t y, uint32_t *result)
     case 3:
     case 4:
         if (!y)
-            return SK_DIVIDE_BY_ZERO;
+            return KETTLE_DIVIDE_BY_ZERO;
         v = op == 3 ? x / y : x % y;
         break;
     case 5:
@@ -351,7 +351,7 @@ static uint64_t reckon(unsigned op, uint64_t x, uint64_t y, uint32_t *result)
             v++;
     }
     *result = (uint32_t)v;
-    return v > 65535 ? SK_ARITH_OVERFLOW : 0;
+    return v > 65535 ? KETTLE_ARITH_OVERFLOW : 0;
 }
 
 static int compares(unsigned op, uint32_t x, uint32_t y)
@@ -371,18 +371,18 @@ static uint64_t transfer(struct whole *w, struct step *s, unsigned word)
 {
     unsigned r = word >> 4 & 7, at = s->r[word >> 7 & 7] + (word >> 11), wide = (word & 15) == 4;
     if (at > 65535)
-        return SK_ADDRESS_OVERFLOW;
+        return KETTLE_ADDRESS_OVERFLOW;
     if (word >> 10 & 1) {
         unsigned value = s->r[r];
         if (!store(w, s, at, value))
             halt_unless(s, 0);
         else if (wide && at == 65535)
-            return SK_ADDRESS_OVERFLOW;
+            return KETTLE_ADDRESS_OVERFLOW;
         else if (wide)
             halt_unless(s, store(w, s, at + 1, value >> 8));
     } else if (shown(w, at)) {
         if (wide && at == 65535)
-            return SK_ADDRESS_OVERFLOW;
+            return KETTLE_ADDRESS_OVERFLOW;
         if (!wide)
             s->r[r] = *shown(w, at);
         else if (shown(w, at + 1))
@@ -400,7 +400,7 @@ static uint64_t step_rule(struct whole *w, unsigned *word, unsigned *kind)
         return code;
     struct step s = {{0}, 0, {0, 0}, {0, 0}};
     for (unsigned i = 0; i < 8; i++)
-        s.r[i] = reg(w, (enum sk_register)i);
+        s.r[i] = reg(w, (enum kettle_register)i);
     unsigned i = *word, op = i & 15, d = i >> 4 & 7, jumped = 0;
     uint32_t y, result = 0;
     switch (op) {
@@ -411,8 +411,8 @@ static uint64_t step_rule(struct whole *w, unsigned *word, unsigned *kind)
         code = reckon(i >> 7 & 3, s.r[d], y, &result);
         if (code)
             return code;
-        if ((i >> 7 & 3) == 3 && s.r[SK_FLAGS] & SK_FLAG_REMAINDER)
-            store(w, &s, s.r[SK_SP], s.r[d] % y);
+        if ((i >> 7 & 3) == 3 && s.r[KETTLE_FLAGS] & KETTLE_FLAG_REMAINDER)
+            store(w, &s, s.r[KETTLE_SP], s.r[d] % y);
         s.r[d] = result;
         break;
     case 4:
@@ -424,17 +424,17 @@ static uint64_t step_rule(struct whole *w, unsigned *word, unsigned *kind)
     case 5:
     case 6:
         if (op == 5 && !(i & 16)) {
-            if (!(s.r[SK_FLAGS] & SK_FLAG_TRUE))
+            if (!(s.r[KETTLE_FLAGS] & KETTLE_FLAG_TRUE))
                 break;
-            s.r[SK_FLAGS] &= ~(uint32_t)SK_FLAG_TRUE;
+            s.r[KETTLE_FLAGS] &= ~(uint32_t)KETTLE_FLAG_TRUE;
         }
-        s.r[SK_PC] = i & 16 ? s.r[i >> 5 & 7] : i >> 5;
+        s.r[KETTLE_PC] = i & 16 ? s.r[i >> 5 & 7] : i >> 5;
         jumped = 1;
         break;
     case 7:
         y = i & 1024 ? s.r[i >> 11 & 7] : i >> 11;
-        result = compares(i >> 7 & 7, s.r[d], y) ? SK_FLAG_TRUE : 0;
-        s.r[SK_FLAGS] = (s.r[SK_FLAGS] & ~(uint32_t)SK_FLAG_TRUE) | result;
+        result = compares(i >> 7 & 7, s.r[d], y) ? KETTLE_FLAG_TRUE : 0;
+        s.r[KETTLE_FLAGS] = (s.r[KETTLE_FLAGS] & ~(uint32_t)KETTLE_FLAG_TRUE) | result;
         break;
     case 9: {
         const uint8_t *from = shown(w, s.r[d]);
@@ -448,39 +448,39 @@ static uint64_t step_rule(struct whole *w, unsigned *word, unsigned *kind)
         s.r[d] = result;
         break;
     case 11:
-        if (!(i & 16) && s.r[SK_PC] >= 65534)
-            return SK_PC_OVERFLOW;
-        y = s.r[SK_PC] + 2;
-        s.r[SK_PC] = i & 16 ? s.r[SK_M] : i >> 5;
+        if (!(i & 16) && s.r[KETTLE_PC] >= 65534)
+            return KETTLE_PC_OVERFLOW;
+        y = s.r[KETTLE_PC] + 2;
+        s.r[KETTLE_PC] = i & 16 ? s.r[KETTLE_M] : i >> 5;
         if (!(i & 16))
-            s.r[SK_M] = y;
+            s.r[KETTLE_M] = y;
         jumped = 1;
         break;
     default: break;
     }
-    if (!jumped && s.r[SK_PC] >= 65534)
-        return SK_PC_OVERFLOW;
+    if (!jumped && s.r[KETTLE_PC] >= 65534)
+        return KETTLE_PC_OVERFLOW;
     if (!jumped)
-        s.r[SK_PC] += 2;
-    unsigned most = slots(w), slot = next_slot(w), held = sk_held(w->block);
+        s.r[KETTLE_PC] += 2;
+    unsigned most = slots(w), slot = next_slot(w), held = kettle_held(w->block);
     if (most) {
-        uint8_t *record = w->journal + (size_t)slot * SK_RECORD_SIZE;
-        memset(record, 0, SK_RECORD_SIZE);
+        uint8_t *record = w->journal + (size_t)slot * KETTLE_RECORD_SIZE;
+        memset(record, 0, KETTLE_RECORD_SIZE);
         record[0] = (uint8_t)s.kind;
         memcpy(record + 1, w->block, 16);
         for (unsigned k = 0; k < s.kind; k++) {
             put_word(record + 17 + 3 * k, s.at[k]);
             record[19 + 3 * k] = *shown(w, s.at[k]);
         }
-        put_word(w->block + SK_BLOCK_NEXT, (slot + 1) % most);
-        put_word(w->block + SK_BLOCK_HELD, held < most ? held + 1 : most);
+        put_word(w->block + KETTLE_BLOCK_NEXT, (slot + 1) % most);
+        put_word(w->block + KETTLE_BLOCK_HELD, held < most ? held + 1 : most);
     }
     for (unsigned k = 0; k < s.kind; k++)
         *taking(w, s.at[k]) = s.byte[k];
     for (unsigned k = 0; k < 8; k++)
         put_word(w->block + 2 * k, s.r[k]);
     *kind = s.kind;
-    return op == 0 && w->block[SK_BLOCK_DEBUG] ? SK_DEBUG : 0;
+    return op == 0 && w->block[KETTLE_BLOCK_DEBUG] ? KETTLE_DEBUG : 0;
 }
 
 #endif

@@ -1,12 +1,12 @@
-/* Single bytes and words. No entry has the name of these commands, but two can be asked: sk_read shows a byte, and sk_step_back
+/* Single bytes and words. No entry has the name of these commands, but two can be asked: kettle_read shows a byte, and kettle_step_back
  * over a record written by hand stores one, by the rule of every store. Neither looks at this block's own journal. */
 #include "host.h"
 
 /* the block with another, empty cursor */
-static void block_apart(const struct host *h, uint8_t block[SK_BLOCK_SIZE])
+static void block_apart(const struct host *h, uint8_t block[KETTLE_BLOCK_SIZE])
 {
-    memcpy(block, h->block.bytes, SK_BLOCK_SIZE);
-    memset(block + SK_BLOCK_NEXT, 0, 4);
+    memcpy(block, h->block.bytes, KETTLE_BLOCK_SIZE);
+    memset(block + KETTLE_BLOCK_NEXT, 0, 4);
 }
 
 static enum outcome why_not(const struct host *h)
@@ -18,7 +18,7 @@ static enum outcome why_not(const struct host *h)
 static enum outcome shown(struct job *job, size_t size)
 {
     struct host *h = job->host;
-    uint8_t block[SK_BLOCK_SIZE], found[2] = {0, 0};
+    uint8_t block[KETTLE_BLOCK_SIZE], found[2] = {0, 0};
     uint64_t answer;
     uint16_t a;
     if (!word(&job->fields, &a))
@@ -28,13 +28,13 @@ static enum outcome shown(struct job *job, size_t size)
     if (a + size > 65535)
         return TOP_ADDRESS;
     block_apart(h, block);
-    answer = sk_read(block, sizeof block, LENT(h->memory), LENT(h->devices), NULL, 0, a, size, found, size);
-    if (sk_code(answer) != SK_ACCEPTED)
+    answer = kettle_read(block, sizeof block, LENT(h->memory), LENT(h->devices), NULL, 0, a, size, found, size);
+    if (kettle_code(answer) != KETTLE_ACCEPTED)
         say_answer(&job->got, answer);
-    else if (sk_above(answer) < size)
+    else if (kettle_above(answer) < size)
         out_text(&job->got, "none");
     else
-        out_number(&job->got, sk_word(found));
+        out_number(&job->got, kettle_word(found));
     return COMPARED;
 }
 
@@ -53,12 +53,12 @@ enum outcome do_word(struct job *job)
 /* A step back over one record: it stored one byte at this address, where this byte was before. */
 static uint64_t store_through_entry(struct host *h, uint16_t a, uint8_t v)
 {
-    uint8_t block[SK_BLOCK_SIZE], journal[SK_RECORD_SIZE] = {1};
+    uint8_t block[KETTLE_BLOCK_SIZE], journal[KETTLE_RECORD_SIZE] = {1};
     block_apart(h, block);
-    write_word(block + SK_BLOCK_HELD, 1);
+    write_word(block + KETTLE_BLOCK_HELD, 1);
     write_word(journal + 17, a);
     journal[19] = v;
-    return sk_step_back(block, sizeof block, LENT(h->memory), LENT(h->devices), journal, sizeof journal);
+    return kettle_step_back(block, sizeof block, LENT(h->memory), LENT(h->devices), journal, sizeof journal);
 }
 
 static size_t in_use(uint8_t count)
@@ -71,21 +71,21 @@ static uint8_t *target(struct host *h, uint16_t a)
 {
     const uint8_t *b = h->block.bytes;
     size_t i, base = 0;
-    for (i = 0; i < in_use(b[SK_BLOCK_DEVICE_COUNT]); i++) {
-        uint16_t start = sk_word(b + SK_BLOCK_DEVICES + 4 * i), end = sk_word(b + SK_BLOCK_DEVICES + 4 * i + 2);
+    for (i = 0; i < in_use(b[KETTLE_BLOCK_DEVICE_COUNT]); i++) {
+        uint16_t start = kettle_word(b + KETTLE_BLOCK_DEVICES + 4 * i), end = kettle_word(b + KETTLE_BLOCK_DEVICES + 4 * i + 2);
         if (start <= a && a < end)
             return base + (size_t)(a - start) < h->devices.len ? h->devices.bytes + base + (a - start) : NULL;
         base += end > start ? (size_t)(end - start) : 0;
     }
-    for (i = 0; i < in_use(b[SK_BLOCK_PROTECTED]); i++) {
-        uint16_t start = sk_word(b + SK_BLOCK_REGIONS + 4 * i), len = sk_word(b + SK_BLOCK_REGIONS + 4 * i + 2);
+    for (i = 0; i < in_use(b[KETTLE_BLOCK_PROTECTED]); i++) {
+        uint16_t start = kettle_word(b + KETTLE_BLOCK_REGIONS + 4 * i), len = kettle_word(b + KETTLE_BLOCK_REGIONS + 4 * i + 2);
         if (start <= a && a - start < len)
             return NULL;
     }
     return a < h->memory.len ? h->memory.bytes + a : NULL;
 }
 
-/* the answer's code: accepted, SK_BAD_JOURNAL where the address takes no store, or what should not be */
+/* the answer's code: accepted, KETTLE_BAD_JOURNAL where the address takes no store, or what should not be */
 static uint64_t store(struct host *h, uint16_t a, uint8_t v)
 {
     uint8_t *byte;
@@ -93,14 +93,14 @@ static uint64_t store(struct host *h, uint16_t a, uint8_t v)
         return store_through_entry(h, a, v);
     byte = target(h, a);
     if (byte == NULL)
-        return SK_BAD_JOURNAL;
+        return KETTLE_BAD_JOURNAL;
     *byte = v;
-    return SK_ACCEPTED;
+    return KETTLE_ACCEPTED;
 }
 
 static enum outcome stored(struct job *job, uint64_t answer)
 {
-    if (sk_code(answer) == SK_BAD_JOURNAL)
+    if (kettle_code(answer) == KETTLE_BAD_JOURNAL)
         out_text(&job->got, "failed");
     else
         say_answer(&job->got, answer);
@@ -129,7 +129,7 @@ static uint64_t top_store(struct host *h)
         memcpy(h->devices.bytes, devices.bytes, devices.len);
     lent_return(&memory);
     lent_return(&devices);
-    return sk_code(answer) == SK_ACCEPTED ? SK_ADDRESS_OVERFLOW : answer;
+    return kettle_code(answer) == KETTLE_ACCEPTED ? KETTLE_ADDRESS_OVERFLOW : answer;
 }
 
 enum outcome do_putw(struct job *job)
@@ -141,7 +141,7 @@ enum outcome do_putw(struct job *job)
     if (a == 65535)
         return stored(job, top_store(job->host));
     answer = store(job->host, a, (uint8_t)(w & 255));
-    if (sk_code(answer) == SK_ACCEPTED)
+    if (kettle_code(answer) == KETTLE_ACCEPTED)
         answer = store(job->host, (uint16_t)(a + 1), (uint8_t)(w >> 8));
     return stored(job, answer);
 }

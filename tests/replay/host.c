@@ -12,8 +12,8 @@ void write_word(uint8_t *bytes, uint16_t w)
 
 struct host host_fresh(void)
 {
-    struct host h = {lend(SK_BLOCK_SIZE, 0), lend(0, 0), lend(0, 0), lend(0, 0), 0};
-    sk_fresh(h.block.bytes, 0);
+    struct host h = {lend(KETTLE_BLOCK_SIZE, 0), lend(0, 0), lend(0, 0), lend(0, 0), 0};
+    kettle_fresh(h.block.bytes, 0);
     return h;
 }
 
@@ -44,7 +44,7 @@ enum outcome do_new(struct job *job)
         return UNREADABLE;
     host_return(h);
     *h = host_fresh();
-    sk_fresh(h->block.bytes, debug == 1);
+    kettle_fresh(h->block.bytes, debug == 1);
     h->memory = filled(memory, seed);
     h->devices = filled(devices, seed);
     h->journal = filled(journal, seed);
@@ -90,12 +90,12 @@ static int words_into(struct job *job, size_t at, size_t count)
 
 enum outcome do_regs(struct job *job)
 {
-    return words_into(job, SK_BLOCK_REGISTERS, 8) ? BY_HOST : UNREADABLE;
+    return words_into(job, KETTLE_BLOCK_REGISTERS, 8) ? BY_HOST : UNREADABLE;
 }
 
 enum outcome do_cursor(struct job *job)
 {
-    return words_into(job, SK_BLOCK_NEXT, 2) ? BY_HOST : UNREADABLE;
+    return words_into(job, KETTLE_BLOCK_NEXT, 2) ? BY_HOST : UNREADABLE;
 }
 
 static int table_into(struct job *job, size_t count_at, size_t at)
@@ -111,7 +111,7 @@ static int table_into(struct job *job, size_t count_at, size_t at)
 enum outcome do_tables(struct job *job)
 {
     job->host->wide = 0;
-    if (!table_into(job, SK_BLOCK_PROTECTED, SK_BLOCK_REGIONS) || !table_into(job, SK_BLOCK_DEVICE_COUNT, SK_BLOCK_DEVICES))
+    if (!table_into(job, KETTLE_BLOCK_PROTECTED, KETTLE_BLOCK_REGIONS) || !table_into(job, KETTLE_BLOCK_DEVICE_COUNT, KETTLE_BLOCK_DEVICES))
         return UNREADABLE;
     return BY_HOST;
 }
@@ -121,12 +121,12 @@ enum outcome do_tables(struct job *job)
 /* entries of a table: two words each */
 static uint32_t first(const uint8_t *table, size_t i)
 {
-    return sk_word(table + 4 * i);
+    return kettle_word(table + 4 * i);
 }
 
 static uint32_t second(const uint8_t *table, size_t i)
 {
-    return sk_word(table + 4 * i + 2);
+    return kettle_word(table + 4 * i + 2);
 }
 
 static int unused_are_zero(const uint8_t *table, size_t count)
@@ -179,8 +179,8 @@ static int devices_valid(const uint8_t *table, size_t count, size_t room)
 int host_tables_valid(const struct host *h)
 {
     const uint8_t *b = h->block.bytes;
-    return !h->wide && regions_valid(b + SK_BLOCK_REGIONS, b[SK_BLOCK_PROTECTED])
-           && devices_valid(b + SK_BLOCK_DEVICES, b[SK_BLOCK_DEVICE_COUNT], h->devices.len);
+    return !h->wide && regions_valid(b + KETTLE_BLOCK_REGIONS, b[KETTLE_BLOCK_PROTECTED])
+           && devices_valid(b + KETTLE_BLOCK_DEVICES, b[KETTLE_BLOCK_DEVICE_COUNT], h->devices.len);
 }
 
 /* ---- the whole state, shown ---------------------------------------------------------------------------------------------- */
@@ -220,18 +220,18 @@ void host_state_text(const struct host *h, struct out *o)
 {
     const uint8_t *b = h->block.bytes;
     int r;
-    for (r = SK_A; r <= SK_FLAGS; r++) {
-        out_text(o, r == SK_A ? "" : ",");
-        out_number(o, sk_register_of(b, (enum sk_register)r));
+    for (r = KETTLE_A; r <= KETTLE_FLAGS; r++) {
+        out_text(o, r == KETTLE_A ? "" : ",");
+        out_number(o, kettle_register_of(b, (enum kettle_register)r));
     }
     out_text(o, " ");
-    out_number(o, b[SK_BLOCK_DEBUG]);
-    table_text(o, b[SK_BLOCK_PROTECTED], b + SK_BLOCK_REGIONS);
-    table_text(o, b[SK_BLOCK_DEVICE_COUNT], b + SK_BLOCK_DEVICES);
+    out_number(o, b[KETTLE_BLOCK_DEBUG]);
+    table_text(o, b[KETTLE_BLOCK_PROTECTED], b + KETTLE_BLOCK_REGIONS);
+    table_text(o, b[KETTLE_BLOCK_DEVICE_COUNT], b + KETTLE_BLOCK_DEVICES);
     out_text(o, " ");
-    out_number(o, sk_word(b + SK_BLOCK_NEXT));
+    out_number(o, kettle_word(b + KETTLE_BLOCK_NEXT));
     out_text(o, " ");
-    out_number(o, sk_held(b));
+    out_number(o, kettle_held(b));
     adler_text(o, &h->memory);
     adler_text(o, &h->devices);
     adler_text(o, &h->journal);

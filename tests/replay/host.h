@@ -28,7 +28,7 @@ enum outcome {
     NO_COMMAND,
     BROKEN_TABLES, /* bytes, words and stores by themselves, on tables that are not valid */
     WIDE_COUNT,
-    TOP_ADDRESS, /* sk_read ends at 65,534 */
+    TOP_ADDRESS, /* kettle_read ends at 65,534 */
     LABEL_ROOM,  /* a label table longer than the entry's */
     OUTCOMES
 };

@@ -5,15 +5,15 @@ enum { WORDS_MOST = 32800, ROOM_MOST = 65600 };
 
 void say_answer(struct out *o, uint64_t answer)
 {
-    if (sk_code(answer) == SK_ACCEPTED) {
+    if (kettle_code(answer) == KETTLE_ACCEPTED) {
         out_text(o, "ok");
     } else {
         out_text(o, "no ");
-        out_number(o, sk_code(answer));
+        out_number(o, kettle_code(answer));
     }
-    if (sk_above(answer) != 0) {
+    if (kettle_above(answer) != 0) {
         out_text(o, " above ");
-        out_number(o, sk_above(answer));
+        out_number(o, kettle_above(answer));
     }
 }
 
@@ -30,7 +30,7 @@ enum outcome do_set(struct job *job)
         return UNREADABLE;
     if (job->host->wide)
         return WIDE_COUNT;
-    return answered(job, sk_set_register(NO_MEMORY(job->host), r, v));
+    return answered(job, kettle_set_register(NO_MEMORY(job->host), r, v));
 }
 
 enum outcome do_protect(struct job *job)
@@ -40,7 +40,7 @@ enum outcome do_protect(struct job *job)
         return UNREADABLE;
     if (job->host->wide)
         return WIDE_COUNT;
-    return answered(job, sk_protect(NO_MEMORY(job->host), start, len));
+    return answered(job, kettle_protect(NO_MEMORY(job->host), start, len));
 }
 
 enum outcome do_device(struct job *job)
@@ -50,21 +50,21 @@ enum outcome do_device(struct job *job)
         return UNREADABLE;
     if (job->host->wide)
         return WIDE_COUNT;
-    return answered(job, sk_device(NO_MEMORY(job->host), start, size));
+    return answered(job, kettle_device(NO_MEMORY(job->host), start, size));
 }
 
 enum outcome do_forget(struct job *job)
 {
     if (job->host->wide)
         return WIDE_COUNT;
-    return answered(job, sk_forget(NO_MEMORY(job->host)));
+    return answered(job, kettle_forget(NO_MEMORY(job->host)));
 }
 
 enum outcome do_back(struct job *job)
 {
     if (job->host->wide)
         return WIDE_COUNT;
-    return answered(job, sk_step_back(WHOLE(job->host)));
+    return answered(job, kettle_step_back(WHOLE(job->host)));
 }
 
 /* takes the words back */
@@ -73,7 +73,7 @@ static enum outcome loaded(struct job *job, struct lent *words)
     enum outcome done = WIDE_COUNT;
     if (!job->host->wide) {
         lent_keep(words);
-        done = answered(job, sk_load(WHOLE(job->host), LENT(*words)));
+        done = answered(job, kettle_load(WHOLE(job->host), LENT(*words)));
     }
     lent_return(words);
     return done;
@@ -129,9 +129,9 @@ enum outcome do_read(struct job *job)
     if (job->host->wide)
         return WIDE_COUNT;
     buffer = lend((size_t)room, 0xEE);
-    answer = sk_read(WHOLE(job->host), start, (size_t)size, LENT(buffer));
-    if (sk_code(answer) == SK_ACCEPTED)
-        out_number(&job->got, sk_above(answer));
+    answer = kettle_read(WHOLE(job->host), start, (size_t)size, LENT(buffer));
+    if (kettle_code(answer) == KETTLE_ACCEPTED)
+        out_number(&job->got, kettle_above(answer));
     else
         say_answer(&job->got, answer);
     out_text(&job->got, " ");
@@ -142,11 +142,11 @@ enum outcome do_read(struct job *job)
 
 static void say_step(struct out *o, unsigned code)
 {
-    if (code == SK_ACCEPTED)
+    if (code == KETTLE_ACCEPTED)
         out_text(o, "continue");
-    else if (code == SK_DEBUG)
+    else if (code == KETTLE_DEBUG)
         out_text(o, "debug");
-    else if (code == SK_STOP)
+    else if (code == KETTLE_STOP)
         out_text(o, "stop");
     else
         say_answer(o, code);
@@ -157,9 +157,9 @@ enum outcome do_step(struct job *job)
     uint64_t answer;
     if (job->host->wide)
         return WIDE_COUNT;
-    answer = sk_step(WHOLE(job->host));
-    say_step(&job->got, sk_code(answer));
-    if (sk_above(answer) != 0)
+    answer = kettle_step(WHOLE(job->host));
+    say_step(&job->got, kettle_code(answer));
+    if (kettle_above(answer) != 0)
         out_text(&job->got, " above");
     return COMPARED;
 }
@@ -171,9 +171,9 @@ enum outcome do_run(struct job *job)
         return UNREADABLE;
     if (job->host->wide)
         return WIDE_COUNT;
-    answer = sk_run(WHOLE(job->host), (uint32_t)steps);
-    say_step(&job->got, sk_code(answer));
+    answer = kettle_run(WHOLE(job->host), (uint32_t)steps);
+    say_step(&job->got, kettle_code(answer));
     out_text(&job->got, " ");
-    out_number(&job->got, sk_above(answer));
+    out_number(&job->got, kettle_above(answer));
     return COMPARED;
 }

@@ -43,7 +43,7 @@ static int hangs_on_labels(struct job *job, const struct rules *r, unsigned code
     struct fields f = fields_of(job->expected);
     struct span said;
     uint64_t words, labels = 0;
-    if (code != SK_TOO_MANY_LABELS || r->labels <= LABELS)
+    if (code != KETTLE_TOO_MANY_LABELS || r->labels <= LABELS)
         return 0;
     /* accepted with a longer table: only more labels than the entry has room for excuse it */
     if (field(&f, &said) && span_is(said, "ok") && number(&f, WORDS_MOST, &words) && number(&f, LABELS_MOST, &labels))
@@ -76,23 +76,23 @@ static uint64_t shortened(const struct rules *r, struct lent *text)
 static void say_assembled(struct out *o, uint64_t answer, uint64_t before, const struct lent *words)
 {
     size_t i;
-    if (sk_code(answer) == SK_ACCEPTED) {
+    if (kettle_code(answer) == KETTLE_ACCEPTED) {
         out_text(o, "ok ");
-        out_number(o, sk_words(answer));
+        out_number(o, kettle_words(answer));
         out_text(o, " ");
-        out_number(o, sk_labels(answer));
+        out_number(o, kettle_labels(answer));
         out_text(o, " ");
-        out_number(o, sk_open(answer));
+        out_number(o, kettle_open(answer));
     } else {
         out_text(o, "no ");
-        out_number(o, sk_code(answer));
+        out_number(o, kettle_code(answer));
         out_text(o, " line ");
-        out_number(o, sk_above(answer) - before);
+        out_number(o, kettle_above(answer) - before);
     }
     out_text(o, " | ");
     for (i = 0; i < words->len; i += 2) {
         out_text(o, i == 0 ? "" : " ");
-        out_word(o, sk_word(words->bytes + i));
+        out_word(o, kettle_word(words->bytes + i));
     }
 }
 
@@ -106,8 +106,8 @@ static enum outcome assembled(struct job *job, const struct rules *r, struct len
     if (begins(job->expected, "no 27 ") && r->labels < LABELS)
         before = shortened(r, text);
     lent_keep(text);
-    answer = sk_assemble(LENT(*text), strict, LENT(words));
-    if (!hangs_on_labels(job, r, sk_code(answer))) {
+    answer = kettle_assemble(LENT(*text), strict, LENT(words));
+    if (!hangs_on_labels(job, r, kettle_code(answer))) {
         job->expected.len = bar(job->expected, bar(job->expected, 0) + 3);
         say_assembled(&job->got, answer, before, &words);
         done = COMPARED;
@@ -161,7 +161,7 @@ enum outcome do_asmn(struct job *job)
 static int refuses_less(const struct lent *text, size_t room)
 {
     struct lent out = lend(room, 0xEE);
-    int held = sk_list(LENT(*text), LENT(out)) == SK_NO_ROOM;
+    int held = kettle_list(LENT(*text), LENT(out)) == KETTLE_NO_ROOM;
     size_t i;
     for (i = 0; i < room; i++)
         held = held && out.bytes[i] == 0xEE;
@@ -178,9 +178,9 @@ enum outcome do_listing(struct job *job)
         return UNREADABLE;
     out = lend(job->expected.len / 2, 0xEE);
     lent_keep(&bytes);
-    answer = sk_list(LENT(bytes), LENT(out));
-    if (sk_code(answer) == SK_ACCEPTED && sk_above(answer) <= out.len)
-        out_hex(&job->got, out.bytes, (size_t)sk_above(answer));
+    answer = kettle_list(LENT(bytes), LENT(out));
+    if (kettle_code(answer) == KETTLE_ACCEPTED && kettle_above(answer) <= out.len)
+        out_hex(&job->got, out.bytes, (size_t)kettle_above(answer));
     else
         say_answer(&job->got, answer);
     if (!refuses_less(&bytes, out.len - 1))

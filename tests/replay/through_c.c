@@ -28,19 +28,19 @@ static const struct row rows[] = {
     {"cursor", do_cursor, NULL},
     {"tables", do_tables, NULL},
     {"state", do_state, NULL},
-    {"set", do_set, "sk_set_register"},
-    {"protect", do_protect, "sk_protect"},
-    {"device", do_device, "sk_device"},
-    {"load", do_load, "sk_load"},
-    {"loadn", do_loadn, "sk_load"},
-    {"read", do_read, "sk_read"},
-    {"step", do_step, "sk_step"},
-    {"run", do_run, "sk_run"},
-    {"back", do_back, "sk_step_back"},
-    {"forget", do_forget, "sk_forget"},
-    {"asm", do_asm, "sk_assemble"},
-    {"asmn", do_asmn, "sk_assemble"},
-    {"listing", do_listing, "sk_list"},
+    {"set", do_set, "kettle_set_register"},
+    {"protect", do_protect, "kettle_protect"},
+    {"device", do_device, "kettle_device"},
+    {"load", do_load, "kettle_load"},
+    {"loadn", do_loadn, "kettle_load"},
+    {"read", do_read, "kettle_read"},
+    {"step", do_step, "kettle_step"},
+    {"run", do_run, "kettle_run"},
+    {"back", do_back, "kettle_step_back"},
+    {"forget", do_forget, "kettle_forget"},
+    {"asm", do_asm, "kettle_assemble"},
+    {"asmn", do_asmn, "kettle_assemble"},
+    {"listing", do_listing, "kettle_list"},
     {"byte", do_byte, NULL},
     {"word", do_word, NULL},
     {"put", do_put, NULL},
@@ -54,15 +54,15 @@ static const struct row rows[] = {
 
 enum { ROWS = sizeof rows / sizeof rows[0] };
 
-static const char *const entries[] = {"sk_assemble", "sk_load",   "sk_step",   "sk_run",  "sk_step_back", "sk_set_register",
-                                      "sk_protect",  "sk_device", "sk_forget", "sk_read", "sk_list"};
+static const char *const entries[] = {"kettle_assemble", "kettle_load",   "kettle_step",   "kettle_run",  "kettle_step_back", "kettle_set_register",
+                                      "kettle_protect",  "kettle_device", "kettle_forget", "kettle_read", "kettle_list"};
 
 static const char *const reasons[OUTCOMES] = {
     [NO_ENTRY] = "commands that no entry stands for",
     [NO_COMMAND] = "lines that are answered `?`",
     [BROKEN_TABLES] = "single bytes and words, on tables that are not valid",
     [WIDE_COUNT] = "a table's count over 255, which a block cannot hold",
-    [TOP_ADDRESS] = "bytes and words that sk_read does not reach",
+    [TOP_ADDRESS] = "bytes and words that kettle_read does not reach",
     [LABEL_ROOM] = "texts whose answer hangs on a label table longer than 1,024",
 };
 

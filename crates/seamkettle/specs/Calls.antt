@@ -17,7 +17,7 @@ use Rattle.asm.specs.Assemble.{Outcome, outcome, wordsOf, filled, report}
 use Rattle.block.specs.Block.{isBlock, packed, unpacked}
 use Rattle.numbers.specs.Answers.{coded, stepCode, countedNumber, assembledNumber}
 
--- ---- entries that may write memory, devices or journal: sk_step, sk_run, sk_step_back, sk_load
+-- ---- entries that may write memory, devices or journal: kettle_step, kettle_run, kettle_step_back, kettle_load
 
 pub record Seen : Type 0 where
   pub number : ℕ
@@ -61,7 +61,7 @@ loading words block b j =
     through (isBlock block && even words)
     (λ w. shown (host.loadNumber (w .state) (w .bytes) (w .journal) (wordsIn words)) (loaded w (wordsIn words))) block b j
 
--- ---- entries that write the block alone: sk_set_register, sk_protect, sk_device, sk_forget, each over its definition of a state. What
+-- ---- entries that write the block alone: kettle_set_register, kettle_protect, kettle_device, kettle_forget, each over its definition of a state. What
 -- a refusal leaves as it was is packed as it was (proofs/Refused.antt)
 
 unfoldable pub numberIn : List ℕ → (State → ℕ) → ℕ
@@ -70,7 +70,7 @@ numberIn block entry = cond (isBlock block) (entry (unpacked block)) 31
 unfoldable pub blockAfter : List ℕ → (State → State) → List ℕ
 blockAfter block entry = cond (isBlock block) (packed (entry (unpacked block))) block
 
--- ---- sk_read: reading memory out into a buffer
+-- ---- kettle_read: reading memory out into a buffer
 
 unfoldable pub readNumber : List ℕ → Lent → List ℕ → ℕ → ℕ → ℕ → ℕ
 readNumber block b j start size room = numberIn block (λ s. countedNumber (host.readOut s b j start size room))
@@ -78,7 +78,7 @@ readNumber block b j start size room = numberIn block (λ s. countedNumber (host
 unfoldable pub readBuffer : List ℕ → Lent → List ℕ → ℕ → ℕ → List ℕ → List ℕ
 readBuffer block b j start size buffer = cond (isBlock block) (host.readOutBuffer (unpacked block) b j start size buffer) buffer
 
--- ---- sk_assemble: with 1,024 label entries of its own, into a buffer for half as many words as it has bytes
+-- ---- kettle_assemble: with 1,024 label entries of its own, into a buffer for half as many words as it has bytes
 
 unfoldable pub assembling : Bool → List ℕ → List ℕ → Outcome
 assembling strict text words = outcome strict text (length words / 2) 1024

@@ -1,5 +1,5 @@
 -- Demand 3 as a C host meets it, to be held beside the mission's words: from the block of a valid state and an empty journal, calls
--- of sk_step and sk_step_back in any order, the host changing nothing between: the registers in the block, memory and device bytes
+-- of kettle_step and kettle_step_back in any order, the host changing nothing between: the registers in the block, memory and device bytes
 -- are always those that demand 2's step alone reaches from the start, in as many accepted steps as were not taken back. Each
 -- accepted step adds a record, up to the journal's room; each step-back spends one, and is refused exactly when none is held.
 -- It speaks of what the host sees alone: the block, the lent bytes, and the number of each call. Proved in proofs/Demand.antt.

@@ -13,7 +13,7 @@ ghost use Rattle.seamkettle.specs.Calls.{seen, stepping, running, steppi
 
 // One step, recorded: 31, 1, then the machine's own answer.
 #[no_mangle]
-pub extern "C" fn sk_step(
+pub extern "C" fn kettle_step(
     block: &mut [u8],
     memory: &mut [u8],
     devices: &mut [u8],
@@ -35,7 +35,7 @@ pub extern "C" fn sk_step(
 
 // At most so many steps: 31, 1, then the last step's answer, and how many were accepted.
 #[no_mangle]
-pub extern "C" fn sk_run(
+pub extern "C" fn kettle_run(
     block: &mut [u8],
     memory: &mut [u8],
     devices: &mut [u8],
@@ -58,7 +58,7 @@ pub extern "C" fn sk_run(
 
 // Takes the newest record back: 31, 1, 10, 11.
 #[no_mangle]
-pub extern "C" fn sk_step_back(
+pub extern "C" fn kettle_step_back(
     block: &mut [u8],
     memory: &mut [u8],
     devices: &mut [u8],
@@ -80,7 +80,7 @@ pub extern "C" fn sk_step_back(
 
 // Empties the journal: 31, 1. Its bytes stay.
 #[no_mangle]
-pub extern "C" fn sk_forget(block: &mut [u8], devices: &[u8], journal: &[u8]) -> u64
+pub extern "C" fn kettle_forget(block: &mut [u8], devices: &[u8], journal: &[u8]) -> u64
     ensures { λ r. ⌜ r ≡ numberIn (now (block .entry)) (λ s. forgetNumber s (now (devices .entry)) (now (journal .entry))) ⌝ }
     ensures { λ _. ⌜ now (block .exit) ≡ blockAfter (now (block .entry)) (λ s. forgotten s (now (devices .entry)) (now (journal .entry))) ⌝ }
 {

@@ -12,7 +12,7 @@ ghost use Rattle.seamkettle.specs.Calls.{numberIn, blockAfter};
 
 // Sets register `number` of A to FLAGS, from 0: 31, 1, 18.
 #[no_mangle]
-pub extern "C" fn sk_set_register(
+pub extern "C" fn kettle_set_register(
     block: &mut [u8],
     devices: &[u8],
     journal: &[u8],
@@ -35,7 +35,7 @@ pub extern "C" fn sk_set_register(
 
 // Protects the addresses from start on, len of them: 31, 1, 12, 13, 14.
 #[no_mangle]
-pub extern "C" fn sk_protect(
+pub extern "C" fn kettle_protect(
     block: &mut [u8],
     devices: &[u8],
     journal: &[u8],
@@ -60,7 +60,7 @@ pub extern "C" fn sk_protect(
 
 // A new device over the addresses from start on, size of them: 31, 1, 12, 13, 14, 17.
 #[no_mangle]
-pub extern "C" fn sk_device(
+pub extern "C" fn kettle_device(
     block: &mut [u8],
     devices: &[u8],
     journal: &[u8],

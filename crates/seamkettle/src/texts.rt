@@ -57,7 +57,7 @@ fn assemble_bytes(rules: Rules, text: &[u8], words: &mut [u8], own: &mut [u16]) 
 // Assembles a text into words, plainly for strict = 0: 31, then a refusal and its line, or how many words, open references and
 // labels there are. Words that are not used are zero, all of them on a refusal but 31.
 #[no_mangle]
-pub extern "C" fn sk_assemble(text: &[u8], strict: u8, words: &mut [u8]) -> u64
+pub extern "C" fn kettle_assemble(text: &[u8], strict: u8, words: &mut [u8]) -> u64
     ensures { λ r. ⌜ r ≡ assembleNumber (not (eqb strict 0)) (now (text .entry)) (now (words .entry)) ⌝ }
     ensures { λ _. ⌜ now (words .exit) ≡ assembledWords (not (eqb strict 0)) (now (text .entry)) (now (words .entry)) ⌝ }
 {
@@ -74,7 +74,7 @@ pub extern "C" fn sk_assemble(text: &[u8], strict: u8, words: &mut [u8]) -> u64
 
 // The listing of a text: 19, or how long it is.
 #[no_mangle]
-pub extern "C" fn sk_list(text: &[u8], out: &mut [u8]) -> u64
+pub extern "C" fn kettle_list(text: &[u8], out: &mut [u8]) -> u64
     ensures { λ r. ⌜ r ≡ listedNumber (listed (now (text .entry)) (length (now (out .entry)))) ⌝ }
     ensures { λ _. ⌜ now (out .exit) ≡ listedBuffer (now (text .entry)) (now (out .entry)) ⌝ }
 {

@@ -6,11 +6,11 @@ use borrow.Author.Tests.{not-true, not-false}
 use Rattle.journal.specs.declared.State.{State}
 use Rattle.block.specs.Block.{isBlock}
 use Rattle.block.proofs.Laws.{block-length}
-use Rattle.host.specs.Host.{setNumber, setState}
+use Rattle.journal.specs.Back.{forgetNumber, forgotten}
 use Rattle.seamkettle.proofs.CallLaws.{number-none, number-some, block-none, block-some}
 use borrow.Author.Needs.{needs}
-use Rattle.seamkettle.proofs.tables.sk_set_register.Statement.{statement}
-use Rattle.seamkettle.proofs.tables.sk_set_register.Tie as tie
+use Rattle.seamkettle.proofs.steps.kettle_forget.Statement.{statement}
+use Rattle.seamkettle.proofs.steps.kettle_forget.Tie as tie
 
 is-block-requires : tie.Need-is-block-requires
 is-block-requires c κs = search needs
@@ -27,8 +27,8 @@ returns c =
     let e : isBlock (now (x .block)) ≡ false = sym (c .before .before .is-block .ensures) ∙ not-true _ (c .before .if1 .taken) in
     let dev = now (x .devices) in
     let j = now (x .journal) in (
-      number-none (now (x .block)) e (c .bad-block .ensures) (λ (s : State). setNumber s dev j (x .number)),
-      block-none (now (x .block)) e (λ (s : State). setState s dev j (x .number) (x .value)),
+      number-none (now (x .block)) e (c .bad-block .ensures) (λ (s : State). forgetNumber s dev j),
+      block-none (now (x .block)) e (λ (s : State). forgotten s dev j),
     )
 
 unpack-requires : tie.Need-unpack-requires
@@ -36,8 +36,8 @@ unpack-requires c κs =
     let x = c .before .before .before .before .before .before .before .args in
     block-length (now (x .block)) (sym (c .before .before .is-block .ensures) ∙ not-false _ (c .before .if1 .left))
 
-set-register-requires : tie.Need-set-register-requires
-set-register-requires c κs = search needs
+forget-requires : tie.Need-forget-requires
+forget-requires c κs = search needs
 
 pack-requires : tie.Need-pack-requires
 pack-requires c κs =
@@ -59,14 +59,14 @@ returns-2 c =
     let e : isBlock (now (x .block)) ≡ true = sym (u .before .before .before .is-block .ensures) ∙ not-false _ (u .before .before .if1 .left) in
     let dev = now (x .devices) in
     let j = now (x .journal) in (
-      number-some (now (x .block)) e (u .unpack .ensures) (λ (s : State). setNumber s dev j (x .number))
-          (c .of-answer .ensures ∙ call .set-register .ensures .0),
+      number-some (now (x .block)) e (u .unpack .ensures) (λ (s : State). forgetNumber s dev j)
+          (c .of-answer .ensures ∙ call .forget .ensures .0),
       block-some (now (x .block)) e (u .unpack .ensures) (c .before .before .before .pack .ensures)
-          (λ (s : State). setState s dev j (x .number) (x .value)) (call .set-register .ensures .1),
+          (λ (s : State). forgotten s dev j) (call .forget .ensures .1),
     )
 
-pub sk-set-register-spec : {M : Type 1} → statement M
-sk-set-register-spec =
+pub kettle-forget-spec : {M : Type 1} → statement M
+kettle-forget-spec =
     tie.close
     (tie.spec
     is-block-requires
@@ -74,7 +74,7 @@ sk-set-register-spec =
     same-length
     returns
     unpack-requires
-    set-register-requires
+    forget-requires
     pack-requires
     of-answer-requires
     same-length-2

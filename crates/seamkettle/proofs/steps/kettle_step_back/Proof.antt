@@ -3,14 +3,13 @@ use mathlib.Core.Path.{_≡_, sym, _∙_}
 use mathlib.Core.Bool.{true, false}
 use denote.Ref.{now}
 use borrow.Author.Tests.{not-true, not-false}
-use Rattle.journal.specs.declared.State.{State}
+use Rattle.memory.specs.Bytes.{lent}
 use Rattle.block.specs.Block.{isBlock}
 use Rattle.block.proofs.Laws.{block-length}
-use Rattle.journal.specs.Back.{forgetNumber, forgotten}
-use Rattle.seamkettle.proofs.CallLaws.{number-none, number-some, block-none, block-some}
+use Rattle.seamkettle.proofs.CallLaws.{stepping-back-none, stepping-back-some}
 use borrow.Author.Needs.{needs}
-use Rattle.seamkettle.proofs.steps.sk_forget.Statement.{statement}
-use Rattle.seamkettle.proofs.steps.sk_forget.Tie as tie
+use Rattle.seamkettle.proofs.steps.kettle_step_back.Statement.{statement}
+use Rattle.seamkettle.proofs.steps.kettle_step_back.Tie as tie
 
 is-block-requires : tie.Need-is-block-requires
 is-block-requires c κs = search needs
@@ -23,26 +22,22 @@ same-length c = search needs
 
 returns : tie.Need-returns
 returns c =
-    let x = c .before .before .before .before .before .before .before .args in
+    let x = c .before .before .before .before .before .before .before .before .args in
     let e : isBlock (now (x .block)) ≡ false = sym (c .before .before .is-block .ensures) ∙ not-true _ (c .before .if1 .taken) in
-    let dev = now (x .devices) in
-    let j = now (x .journal) in (
-      number-none (now (x .block)) e (c .bad-block .ensures) (λ (s : State). forgetNumber s dev j),
-      block-none (now (x .block)) e (λ (s : State). forgotten s dev j),
-    )
+    stepping-back-none (now (x .block)) e (lent (now (x .memory)) (now (x .devices))) (now (x .journal)) (c .bad-block .ensures)
 
 unpack-requires : tie.Need-unpack-requires
 unpack-requires c κs =
-    let x = c .before .before .before .before .before .before .before .args in
+    let x = c .before .before .before .before .before .before .before .before .args in
     block-length (now (x .block)) (sym (c .before .before .is-block .ensures) ∙ not-false _ (c .before .if1 .left))
 
-forget-requires : tie.Need-forget-requires
-forget-requires c κs = search needs
+step-back-requires : tie.Need-step-back-requires
+step-back-requires c κs = search needs
 
 pack-requires : tie.Need-pack-requires
 pack-requires c κs =
-    let u = c .before .before .before in
-    let x = u .before .before .before .before .before .before .before .before .args in
+    let u = c .before .before .before .before .before .before .before .before .before in
+    let x = u .before .before .before .before .before .before .before .before .before .args in
     block-length (now (x .block)) (sym (u .before .before .before .is-block .ensures) ∙ not-false _ (u .before .before .if1 .left))
 
 of-answer-requires : tie.Need-of-answer-requires
@@ -51,22 +46,23 @@ of-answer-requires c κs = search needs
 same-length-2 : tie.Need-same-length-2
 same-length-2 c = search needs
 
+same-length-3 : tie.Need-same-length-3
+same-length-3 c = search needs
+
+same-length-4 : tie.Need-same-length-4
+same-length-4 c = search needs
+
 returns-2 : tie.Need-returns-2
 returns-2 c =
-    let call = c .before .before .before .before .before .before in
-    let u = call .before in
-    let x = u .before .before .before .before .before .before .before .before .args in
+    let call = c .before .before .before .before .before .before .before .before .before .before in
+    let u = call .before .before .before in
+    let x = u .before .before .before .before .before .before .before .before .before .args in
     let e : isBlock (now (x .block)) ≡ true = sym (u .before .before .before .is-block .ensures) ∙ not-false _ (u .before .before .if1 .left) in
-    let dev = now (x .devices) in
-    let j = now (x .journal) in (
-      number-some (now (x .block)) e (u .unpack .ensures) (λ (s : State). forgetNumber s dev j)
-          (c .of-answer .ensures ∙ call .forget .ensures .0),
-      block-some (now (x .block)) e (u .unpack .ensures) (c .before .before .before .pack .ensures)
-          (λ (s : State). forgotten s dev j) (call .forget .ensures .1),
-    )
+    stepping-back-some (now (x .block)) e (u .unpack .ensures) (c .before .before .before .pack .ensures)
+    (lent (now (x .memory)) (now (x .devices))) (now (x .journal)) (call .step-back .ensures) (c .of-answer .ensures)
 
-pub sk-forget-spec : {M : Type 1} → statement M
-sk-forget-spec =
+pub kettle-step-back-spec : {M : Type 1} → statement M
+kettle-step-back-spec =
     tie.close
     (tie.spec
     is-block-requires
@@ -74,8 +70,10 @@ sk-forget-spec =
     same-length
     returns
     unpack-requires
-    forget-requires
+    step-back-requires
     pack-requires
     of-answer-requires
     same-length-2
+    same-length-3
+    same-length-4
     returns-2)

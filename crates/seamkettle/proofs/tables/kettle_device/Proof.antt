@@ -6,12 +6,12 @@ use borrow.Author.Tests.{not-true, not-false}
 use Rattle.journal.specs.declared.State.{State}
 use Rattle.block.specs.Block.{isBlock}
 use Rattle.block.proofs.Laws.{block-length}
-use Rattle.host.specs.Host.{protectNumber, protectState}
+use Rattle.host.specs.Host.{registerNumber, registerState}
 use Rattle.seamkettle.proofs.CallLaws.{number-none, number-some, block-none, block-some}
-use Rattle.seamkettle.proofs.RangeLaws.{protect-narrow}
+use Rattle.seamkettle.proofs.RangeLaws.{register-narrow}
 use borrow.Author.Needs.{needs}
-use Rattle.seamkettle.proofs.tables.sk_protect.Statement.{statement}
-use Rattle.seamkettle.proofs.tables.sk_protect.Tie as tie
+use Rattle.seamkettle.proofs.tables.kettle_device.Statement.{statement}
+use Rattle.seamkettle.proofs.tables.kettle_device.Tie as tie
 
 is-block-requires : tie.Need-is-block-requires
 is-block-requires c κs = search needs
@@ -28,8 +28,8 @@ returns c =
     let e : isBlock (now (x .block)) ≡ false = sym (c .before .before .is-block .ensures) ∙ not-true _ (c .before .if1 .taken) in
     let dev = now (x .devices) in
     let j = now (x .journal) in (
-      number-none (now (x .block)) e (c .bad-block .ensures) (λ (s : State). protectNumber s dev j (x .start) (x .len)),
-      block-none (now (x .block)) e (λ (s : State). protectState s dev j (x .start) (x .len)),
+      number-none (now (x .block)) e (c .bad-block .ensures) (λ (s : State). registerNumber s dev j (x .start) (x .size)),
+      block-none (now (x .block)) e (λ (s : State). registerState s dev j (x .start) (x .size)),
     )
 
 unpack-requires : tie.Need-unpack-requires
@@ -43,8 +43,8 @@ narrow-start-requires c κs = search needs
 narrow-len-requires : tie.Need-narrow-len-requires
 narrow-len-requires c κs = search needs
 
-protect-requires : tie.Need-protect-requires
-protect-requires c κs = search needs
+register-device-requires : tie.Need-register-device-requires
+register-device-requires c κs = search needs
 
 pack-requires : tie.Need-pack-requires
 pack-requires c κs =
@@ -66,16 +66,16 @@ returns-2 c =
     let e : isBlock (now (x .block)) ≡ true = sym (u .before .before .before .is-block .ensures) ∙ not-false _ (u .before .before .if1 .left) in
     let dev = now (x .devices) in
     let j = now (x .journal) in
-    let f = protect-narrow (x .start) (x .len) (call .before .before .narrow-start .ensures) (call .before .narrow-len .ensures)
+    let f = register-narrow (x .start) (x .size) (call .before .before .narrow-start .ensures) (call .before .narrow-len .ensures)
     (u .unpack .result) dev j in (
-      number-some (now (x .block)) e (u .unpack .ensures) (λ (s : State). protectNumber s dev j (x .start) (x .len))
-          (c .of-answer .ensures ∙ call .protect .ensures .0 ∙ f .0),
+      number-some (now (x .block)) e (u .unpack .ensures) (λ (s : State). registerNumber s dev j (x .start) (x .size))
+          (c .of-answer .ensures ∙ call .register-device .ensures .0 ∙ f .0),
       block-some (now (x .block)) e (u .unpack .ensures) (c .before .before .before .pack .ensures)
-          (λ (s : State). protectState s dev j (x .start) (x .len)) (call .protect .ensures .1 ∙ f .1),
+          (λ (s : State). registerState s dev j (x .start) (x .size)) (call .register-device .ensures .1 ∙ f .1),
     )
 
-pub sk-protect-spec : {M : Type 1} → statement M
-sk-protect-spec =
+pub kettle-device-spec : {M : Type 1} → statement M
+kettle-device-spec =
     tie.close
     (tie.spec
     is-block-requires
@@ -85,7 +85,7 @@ sk-protect-spec =
     unpack-requires
     narrow-start-requires
     narrow-len-requires
-    protect-requires
+    register-device-requires
     pack-requires
     of-answer-requires
     same-length-2

@@ -6,8 +6,8 @@ use borrow.Author.Needs.{needs}
 use Rattle.printer.specs.Print.{printed}
 use Rattle.numbers.specs.Answers.{listedNumber}
 use Rattle.seamkettle.proofs.TextLaws.{list-fits}
-use Rattle.seamkettle.proofs.texts.sk_list.Statement.{statement}
-use Rattle.seamkettle.proofs.texts.sk_list.Tie as tie
+use Rattle.seamkettle.proofs.texts.kettle_list.Statement.{statement}
+use Rattle.seamkettle.proofs.texts.kettle_list.Tie as tie
 
 list-requires : tie.Need-list-requires
 list-requires c κs = search needs
@@ -24,8 +24,8 @@ same-length c = search needs
 returns : tie.Need-returns
 returns c = (c .of-list .ensures ∙ ap listedNumber (c .before .before .before .list .ensures .0), c .before .before .before .list .ensures .1 .0)
 
-pub sk-list-spec : {M : Type 1} → statement M
-sk-list-spec =
+pub kettle-list-spec : {M : Type 1} → statement M
+kettle-list-spec =
     tie.close
     (tie.spec
     list-requires

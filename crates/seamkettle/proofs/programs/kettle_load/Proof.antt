@@ -9,8 +9,8 @@ use Rattle.block.specs.Block.{isBlock}
 use Rattle.seamkettle.proofs.LoadLaws.{load-bad, load-odd, load-good, unnumbered}
 use Rattle.block.proofs.Laws.{block-length}
 use Rattle.seamkettle.proofs.TextLaws.{even-yes, even-no}
-use Rattle.seamkettle.proofs.programs.sk_load.Statement.{statement}
-use Rattle.seamkettle.proofs.programs.sk_load.Tie as tie
+use Rattle.seamkettle.proofs.programs.kettle_load.Statement.{statement}
+use Rattle.seamkettle.proofs.programs.kettle_load.Tie as tie
 
 is-block-requires : tie.Need-is-block-requires
 is-block-requires c κs = search needs
@@ -93,8 +93,8 @@ returns-3 c =
     (c .of-answer .result) (p .last .1 .0) (lent (q .last .1 .0) (q .last .1 .1 .0)) (u .unpack .ensures)
     (c .of-answer .ensures ∙ q .ensures .0) (q .ensures .1 .0) (p .ensures) (q .ensures .1 .1)
 
-pub sk-load-spec : {M : Type 1} → statement M
-sk-load-spec =
+pub kettle-load-spec : {M : Type 1} → statement M
+kettle-load-spec =
     tie.close
     (tie.spec
     is-block-requires

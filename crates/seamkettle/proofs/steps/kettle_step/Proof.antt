@@ -8,8 +8,8 @@ use Rattle.block.specs.Block.{isBlock}
 use Rattle.block.proofs.Laws.{block-length}
 use Rattle.seamkettle.proofs.CallLaws.{stepping-none, stepping-some}
 use borrow.Author.Needs.{needs}
-use Rattle.seamkettle.proofs.steps.sk_step.Statement.{statement}
-use Rattle.seamkettle.proofs.steps.sk_step.Tie as tie
+use Rattle.seamkettle.proofs.steps.kettle_step.Statement.{statement}
+use Rattle.seamkettle.proofs.steps.kettle_step.Tie as tie
 
 is-block-requires : tie.Need-is-block-requires
 is-block-requires c κs = search needs
@@ -64,8 +64,8 @@ returns-2 c =
     stepping-some (now (x .block)) e (u .unpack .ensures) (c .before .before .before .pack .ensures)
     (lent (now (x .memory)) (now (x .devices))) (now (x .journal)) (call .step .ensures) (c .of-step .ensures .0)
 
-pub sk-step-spec : {M : Type 1} → statement M
-sk-step-spec =
+pub kettle-step-spec : {M : Type 1} → statement M
+kettle-step-spec =
     tie.close
     (tie.spec
     is-block-requires

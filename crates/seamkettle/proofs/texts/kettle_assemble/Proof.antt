@@ -7,8 +7,8 @@ use borrow.Author.Needs.{needs}
 use Rattle.asm.specs.Assemble.{reported}
 use Rattle.seamkettle.specs.Calls.{even}
 use Rattle.seamkettle.proofs.TextLaws.{even-yes, even-no, odd-number, odd-words, even-number, even-words}
-use Rattle.seamkettle.proofs.texts.sk_assemble.Statement.{statement}
-use Rattle.seamkettle.proofs.texts.sk_assemble.Tie as tie
+use Rattle.seamkettle.proofs.texts.kettle_assemble.Statement.{statement}
+use Rattle.seamkettle.proofs.texts.kettle_assemble.Tie as tie
 
 bad-block-requires : tie.Need-bad-block-requires
 bad-block-requires c κs = search needs
@@ -42,8 +42,8 @@ returns-2 c =
       even-words strict (now (s .text)) (now (s .words)) e _ (q .ensures .1 .1),
     )
 
-pub sk-assemble-spec : {M : Type 1} → statement M
-sk-assemble-spec =
+pub kettle-assemble-spec : {M : Type 1} → statement M
+kettle-assemble-spec =
     tie.close
     (tie.spec
     bad-block-requires

@@ -6,10 +6,10 @@ use borrow.Author.Tests.{not-true, not-false}
 use Rattle.memory.specs.Bytes.{lent}
 use Rattle.block.specs.Block.{isBlock}
 use Rattle.block.proofs.Laws.{block-length}
-use Rattle.seamkettle.proofs.CallLaws.{stepping-back-none, stepping-back-some}
+use Rattle.seamkettle.proofs.CallLaws.{running-none, running-some}
 use borrow.Author.Needs.{needs}
-use Rattle.seamkettle.proofs.steps.sk_step_back.Statement.{statement}
-use Rattle.seamkettle.proofs.steps.sk_step_back.Tie as tie
+use Rattle.seamkettle.proofs.steps.kettle_run.Statement.{statement}
+use Rattle.seamkettle.proofs.steps.kettle_run.Tie as tie
 
 is-block-requires : tie.Need-is-block-requires
 is-block-requires c κs = search needs
@@ -24,24 +24,24 @@ returns : tie.Need-returns
 returns c =
     let x = c .before .before .before .before .before .before .before .before .args in
     let e : isBlock (now (x .block)) ≡ false = sym (c .before .before .is-block .ensures) ∙ not-true _ (c .before .if1 .taken) in
-    stepping-back-none (now (x .block)) e (lent (now (x .memory)) (now (x .devices))) (now (x .journal)) (c .bad-block .ensures)
+    running-none (now (x .block)) e (lent (now (x .memory)) (now (x .devices))) (now (x .journal)) (c .bad-block .ensures) (x .steps)
 
 unpack-requires : tie.Need-unpack-requires
 unpack-requires c κs =
     let x = c .before .before .before .before .before .before .before .before .args in
     block-length (now (x .block)) (sym (c .before .before .is-block .ensures) ∙ not-false _ (c .before .if1 .left))
 
-step-back-requires : tie.Need-step-back-requires
-step-back-requires c κs = search needs
+run-requires : tie.Need-run-requires
+run-requires c κs = search needs
 
 pack-requires : tie.Need-pack-requires
 pack-requires c κs =
-    let u = c .before .before .before .before .before .before .before .before .before in
+    let u = c .before .before .before .before .before .before .before .before .before .before .before .before in
     let x = u .before .before .before .before .before .before .before .before .before .args in
     block-length (now (x .block)) (sym (u .before .before .before .is-block .ensures) ∙ not-false _ (u .before .before .if1 .left))
 
-of-answer-requires : tie.Need-of-answer-requires
-of-answer-requires c κs = search needs
+of-run-requires : tie.Need-of-run-requires
+of-run-requires c κs = search needs
 
 same-length-2 : tie.Need-same-length-2
 same-length-2 c = search needs
@@ -52,17 +52,20 @@ same-length-3 c = search needs
 same-length-4 : tie.Need-same-length-4
 same-length-4 c = search needs
 
+same-length-5 : tie.Need-same-length-5
+same-length-5 c = search needs
+
 returns-2 : tie.Need-returns-2
 returns-2 c =
-    let call = c .before .before .before .before .before .before .before .before .before .before in
-    let u = call .before .before .before in
+    let call = c .before .before .before .before .before .before .before .before .before .before .before .before in
+    let u = call .before .before .before .before in
     let x = u .before .before .before .before .before .before .before .before .before .args in
     let e : isBlock (now (x .block)) ≡ true = sym (u .before .before .before .is-block .ensures) ∙ not-false _ (u .before .before .if1 .left) in
-    stepping-back-some (now (x .block)) e (u .unpack .ensures) (c .before .before .before .pack .ensures)
-    (lent (now (x .memory)) (now (x .devices))) (now (x .journal)) (call .step-back .ensures) (c .of-answer .ensures)
+    running-some (now (x .block)) e (u .unpack .ensures) (c .before .before .before .pack .ensures)
+    (lent (now (x .memory)) (now (x .devices))) (now (x .journal)) (x .steps) (call .run .ensures) (c .of-run .ensures)
 
-pub sk-step-back-spec : {M : Type 1} → statement M
-sk-step-back-spec =
+pub kettle-run-spec : {M : Type 1} → statement M
+kettle-run-spec =
     tie.close
     (tie.spec
     is-block-requires
@@ -70,10 +73,11 @@ sk-step-back-spec =
     same-length
     returns
     unpack-requires
-    step-back-requires
+    run-requires
     pack-requires
-    of-answer-requires
+    of-run-requires
     same-length-2
     same-length-3
     same-length-4
+    same-length-5
     returns-2)

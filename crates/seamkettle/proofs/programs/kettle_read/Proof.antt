@@ -10,8 +10,8 @@ use Rattle.memory.specs.Blocks.{counted}
 use Rattle.block.specs.Block.{isBlock}
 use Rattle.seamkettle.proofs.LoadLaws.{read-bad, buffer-bad, read-fits, read-good, buffer-good}
 use Rattle.block.proofs.Laws.{block-length}
-use Rattle.seamkettle.proofs.programs.sk_read.Statement.{statement}
-use Rattle.seamkettle.proofs.programs.sk_read.Tie as tie
+use Rattle.seamkettle.proofs.programs.kettle_read.Statement.{statement}
+use Rattle.seamkettle.proofs.programs.kettle_read.Tie as tie
 
 is-block-requires : tie.Need-is-block-requires
 is-block-requires c κs = search needs
@@ -82,8 +82,8 @@ returns-2 c =
           block e (u .ensures) (now (s .buffer)) (r .last .1 .1 .1 .1 .1 .1 .0) (r .ensures .1),
     )
 
-pub sk-read-spec : {M : Type 1} → statement M
-sk-read-spec =
+pub kettle-read-spec : {M : Type 1} → statement M
+kettle-read-spec =
     tie.close
     (tie.spec
     is-block-requires
