@@ -1,16 +1,17 @@
--- What printing answers and leaves, by whether the text fits; and a text's length, which is at most the sum of its parts' bounds,
--- with five digits for an amount as for any number. Assumes nothing.
+-- What printing answers and leaves, by whether the text fits, of an instruction and of a word; and a text's length, which is at most
+-- the sum of its parts' bounds, with five digits for an amount as for any number. Assumes nothing.
 use mathlib.Core.Path.{_≡_}
 use mathlib.Core.Bool.{Bool, true, false}
 use mathlib.Core.List.{List, _++_}
 use Prim.Native.Nat.{ℕ, _+_, _≤_, _<_}
 use native.Mathlib.Omega.{arith}
 use borrow.Author.Tests.{le-leb, lt-leb}
-use lib.Dec.{eqb}
+use lib.Dec.{eqb, leb}
 use lib.ListN.{length, take, drop, length-append}
 use lib.Seq.{take-append-seam, sets, sets-eq}
 use Rattle.base.specs.Choice.{cond}
-use Rattle.base.specs.Told.{is, no}
+use Rattle.base.specs.Told.{Told, is, no, _>>=_}
+use Rattle.base.proofs.ToldLaws.{Numbered}
 use Rattle.instruction.specs.declared.Register.{Register}
 use Rattle.instruction.specs.declared.Register.the-variants.{A, B, C, M, SP, PC, BP, FLAGS}
 use Rattle.instruction.specs.declared.Operand.{Operand}
@@ -21,10 +22,12 @@ use Rattle.instruction.specs.declared.ArithmeticOp.{ArithmeticOp}
 use Rattle.instruction.specs.declared.ArithmeticOp.the-variants as seven
 use Rattle.instruction.specs.declared.CompareOp.{CompareOp}
 use Rattle.instruction.specs.declared.CompareOp.the-variants.{Eq, NotEq, Less, LessEq, Greater, GreaterEq}
+use Rattle.instruction.specs.Decode.{decode}
+use Rattle.instruction.proofs.DecodedLaws.{decode-numbered}
 use Rattle.instruction.specs.declared.Instruction.{Instruction}
 use Rattle.instruction.specs.declared.Instruction.the-variants.{Noop, Mov, MovShift, Arith, ArithRegReg, LdrStr, LdbStb, Cpy, Jmp, CondJmp, Cmp, CallRet}
 use Rattle.printer.specs.Text.{bytes, decimalOf, immediateOf, registerName, arithName, arithmeticName, compareName, shiftName, wordName, byteName, operandOf, one, pair, three, bracketed, shifted, addressOf, addressed, callText, text}
-use Rattle.printer.specs.Print.{placed, printNext, printBuffer}
+use Rattle.printer.specs.Print.{placed, printNext, printBuffer, wordNext, wordBuffer}
 use Rattle.printer.proofs.DecimalLaws.{digits-length}
 
 module _ (i : Instruction) (at : ℕ) where
@@ -43,6 +46,25 @@ module _ (i : Instruction) (at : ℕ) where
   pub buffer-19 : (buffer : List ℕ) → length buffer < at + length (text i) → printBuffer i buffer at ≡ buffer
   unfolding printBuffer
   buffer-19 buffer h = rw (lt-leb _ _ h)
+
+-- a word: as its instruction is, or the refusal that it says none
+module _ (w : ℕ) (i : Instruction) (e : decode w ≡ is i) where
+  pub word-next : (room : ℕ) → printNext i room 0 ≡ wordNext w room
+  unfolding wordNext
+  word-next room = rw e
+
+  pub word-buffer : (buffer : List ℕ) → printBuffer i buffer 0 ≡ wordBuffer w buffer
+  unfolding wordBuffer
+  word-buffer buffer = rw e
+
+module _ (w n : ℕ) (e : decode w ≡ no n) where
+  pub none-next : (room : ℕ) → no n ≡ wordNext w room
+  unfolding wordNext
+  none-next room = rw e
+
+  pub none-buffer : (buffer : List ℕ) → buffer ≡ wordBuffer w buffer
+  unfolding wordBuffer
+  none-buffer buffer = rw e
 
 -- bytes that were stored one by one, where there is room for them
 pub placed-sets : (bytes out : List ℕ) (at : ℕ) → at + length bytes ≤ length out → sets out at bytes ≡ placed bytes out at
@@ -168,3 +190,25 @@ text-length (Jmp o) = omega (arith, one-length o)
 text-length (CondJmp o) = omega (arith, one-length o)
 text-length (Cmp r o op) = rw length-append (omega (arith, compare-length op, pair-length r o))
 text-length (CallRet ret a) = omega (arith, call-length ret a)
+
+-- ---- what printing a word answers is small: a position of at most 26, a number of at most 19
+
+abbrev pub Small : Told ℕ → Type 0
+Small (is n) = n ≤ 26
+Small (no n) = n ≤ 19
+
+small-next : (i : Instruction) (room : ℕ) → Small (printNext i room 0)
+unfolding printNext
+small-next i room = go (leb (0 + length (text i)) room)
+  where
+    go : (t : Bool) → Small (cond t (is (0 + length (text i))) (no 19))
+    go true = omega (arith, text-length i)
+    go false = omega arith
+
+pub word-small : (w room : ℕ) → Small (wordNext w room)
+unfolding wordNext
+word-small w room = go (decode w) (decode-numbered w)
+  where
+    go : (t : Told Instruction) → Numbered 4 6 t → Small (t >>= λ i. printNext i room 0)
+    go (is i) h = small-next i room
+    go (no n) h = omega (arith, h .1)

@@ -9,6 +9,7 @@ mod texts;
 
 use base::Refusal;
 pub use prints::print;
+pub use prints::print_word;
 
 // What printing answers: the position after the text, or the refusal.
 pub enum Printed {

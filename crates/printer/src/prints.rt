@@ -2,11 +2,13 @@
 use crate::Printed;
 use crate::texts::line_of;
 use base::Refusal;
+use instruction::Decoded;
 use instruction::Instruction;
+use instruction::decode;
 ghost use mathlib.Core.Path.{_≡_};
 ghost use lib.ListN.{length};
 ghost use Prim.Native.Nat.{_+_, _≤_};
-ghost use Rattle.printer.specs.Print.{placed, printed, printNext, printBuffer};
+ghost use Rattle.printer.specs.Print.{placed, printed, printNext, printBuffer, wordNext, wordBuffer};
 
 // Copies the text into out from position at on.
 fn copy(text: &[u8], out: &mut [u8], at: usize)
@@ -37,4 +39,16 @@ pub fn print(i: Instruction, out: &mut [u8], at: usize) -> Printed
     }
     copy(&bytes[..n], out, at);
     Printed::Next(at + n)
+}
+
+// Writes what a word says at the start of out: 4 to 6 where it says no instruction, then as `print` does.
+pub fn print_word(w: u16, out: &mut [u8]) -> Printed
+    ensures { λ r. ⌜ printed r ≡ wordNext w (length (now (out .entry))) ⌝ }
+    ensures { λ _. ⌜ now (out .exit) ≡ wordBuffer w (now (out .entry)) ⌝ }
+{
+    let d = decode(w);
+    match d {
+        Decoded::Ok(i) => print(i, out, 0),
+        Decoded::Refused(r) => Printed::Refused(r),
+    }
 }

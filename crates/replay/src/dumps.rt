@@ -4,7 +4,6 @@ use crate::answers::counted;
 use crate::answers::printed;
 use crate::instructions::decode;
 use crate::instructions::is_instruction;
-use crate::instructions::print_word;
 use crate::lines::Command;
 use crate::lines::short;
 use crate::names;
@@ -16,6 +15,7 @@ use crate::said::put;
 use crate::said::word;
 use journal::State;
 use machine::Machine;
+use printer::print_word;
 ghost use Prim.Native.Nat.{_≤_};
 
 // What a command leaves in a buffer, and what it says of that.

@@ -48,15 +48,6 @@ pub fn decode(c: Command) -> Said {
     }
 }
 
-// Prints the instruction of a word into a buffer. Where the word is none, nothing is printed, and the refusal is the word's.
-pub fn print_word(w: u16, buf: &mut [u8]) -> Printed {
-    let d = instruction::decode(w);
-    match d {
-        Decoded::Ok(i) => printer::print(i, buf, 0),
-        Decoded::Refused(r) => Printed::Refused(r),
-    }
-}
-
 pub fn is_instruction(w: u16) -> bool {
     let d = instruction::decode(w);
     match d {

@@ -8,10 +8,12 @@ use mathlib.Core.List.{List, _++_}
 use mathlib.Core.Path.{_∙_, _≡_, refl, sym, ap}
 use native.Mathlib.Omega.{arith}
 use borrow.Author.Tests.{leb-true, leb-false, eqb-true, eq-eqb, ne-eqb}
-use Rattle.base.specs.Told.{Told}
+use Rattle.base.specs.Told.{Told, is, no}
 use Rattle.wordbytes.specs.Words.{bytesOf}
 use Rattle.wordbytes.proofs.Laws.{length-bytes, bytes-append, bytes-zeros}
 use Rattle.asm.specs.Assemble.{Outcome, accepted, refused, outcome, wordsOf, filled, Report, counts, refusal, report}
+use Rattle.printer.specs.Print.{wordNext}
+use Rattle.printer.proofs.Laws.{Small, word-small}
 use Rattle.lister.specs.Listing.{listing, listed}
 use Rattle.numbers.specs.Answers.{listedNumber, assembledNumber, fitting}
 use Rattle.seamkettle.specs.Calls.{even, assembling, assembleNumber, assembledWords}
@@ -123,7 +125,7 @@ module _ (strict : Bool) (text words : List ℕ) where
     unfolding assembledWords
     even-words after q = rw e q
 
--- ---- the listing: its length fits
+-- ---- the listing and one word's text: their length fits
 
 pub list-fits : (text : List ℕ) (room : ℕ) (p : Told ℕ) → p ≡ listed text room → length (listing text) ≤ 1212432
     → listedNumber p ≤ 18446744073709551615
@@ -132,3 +134,10 @@ list-fits text room p q h = go (leb (length (listing text)) room) refl
     go : (t : Bool) → leb (length (listing text)) room ≡ t → listedNumber p ≤ 18446744073709551615
     go true e = rw (q ∙ listed-fits text room (leb-true (length (listing text)) room e)) (omega arith)
     go false e = rw (q ∙ listed-19 text room (leb-false (length (listing text)) room e)) (omega arith)
+
+pub word-fits : (w room : ℕ) (p : Told ℕ) → p ≡ wordNext w room → listedNumber p ≤ 18446744073709551615
+word-fits w room p q = rw q (go (wordNext w room) (word-small w room))
+  where
+    go : (t : Told ℕ) → Small t → listedNumber t ≤ 18446744073709551615
+    go (is n) h = omega (arith, h)
+    go (no n) h = omega (arith, h)

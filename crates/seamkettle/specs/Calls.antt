@@ -1,5 +1,5 @@
 -- What each entry does, seen from C: the number that it answers, and every byte that was lent to it, afterwards.
-use Prim.Native.Nat.{ℕ, _/_, _%_}
+use Prim.Native.Nat.{ℕ, _+_, _*_, _/_, _%_}
 use mathlib.Core.Bool.{Bool, _&&_}
 use mathlib.Core.List.{List}
 use lib.Dec.{eqb}
@@ -90,3 +90,8 @@ assembleNumber strict text words = cond (even words) (assembledNumber (report (a
 unfoldable pub assembledWords : Bool → List ℕ → List ℕ → List ℕ
 assembledWords strict text words =
     cond (even words) (bytesOf (filled (length words / 2) (wordsOf (assembling strict text words)))) words
+
+-- ---- kettle_version: 0.2.0, with two decimal digits each for minor and patch
+
+abbrev pub version : ℕ
+version = 10000 * 0 + 100 * 2 + 0

@@ -4,6 +4,7 @@ mod programs;
 mod steps;
 mod tables;
 mod texts;
+mod version;
 
 pub use programs::kettle_load;
 pub use programs::kettle_read;
@@ -16,3 +17,5 @@ pub use tables::kettle_protect;
 pub use tables::kettle_set_register;
 pub use texts::kettle_assemble;
 pub use texts::kettle_list;
+pub use texts::kettle_print;
+pub use version::kettle_version;

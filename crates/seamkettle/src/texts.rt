@@ -1,10 +1,11 @@
-// A text: its words, its listing. No machine is needed.
+// A text: its words, its listing; the text of one word. No machine is needed.
 use asm::Assembled;
 use asm::Rules;
 use assembler::assemble_words;
 use numbers::bad_block;
 use numbers::of_assembly;
 use numbers::of_list;
+use printer::print_word;
 use wordbytes::write_words;
 ghost use mathlib.Core.Path.{_≡_};
 ghost use mathlib.Core.Bool.{true, not};
@@ -13,6 +14,7 @@ ghost use lib.Dec.{eqb};
 ghost use lib.ListN.{length, take};
 ghost use Rattle.wordbytes.specs.Words.{bytesOf};
 ghost use Rattle.asm.specs.Assemble.{wordsOf, filled, report, reported};
+ghost use Rattle.printer.specs.Print.{wordNext, wordBuffer};
 ghost use Rattle.lister.specs.Listing.{listed, listedBuffer};
 ghost use Rattle.numbers.specs.Answers.{listedNumber, fitting};
 ghost use Rattle.seamkettle.specs.Calls.{even, assembling, assembleNumber, assembledWords};
@@ -79,4 +81,13 @@ pub extern "C" fn kettle_list(text: &[u8], out: &mut [u8]) -> u64
     ensures { λ _. ⌜ now (out .exit) ≡ listedBuffer (now (text .entry)) (now (out .entry)) ⌝ }
 {
     of_list(lister::list(text, out))
+}
+
+// What a word says, as the listing has it: 4 to 6, 19, or how long it is.
+#[no_mangle]
+pub extern "C" fn kettle_print(word: u16, out: &mut [u8]) -> u64
+    ensures { λ r. ⌜ r ≡ listedNumber (wordNext word (length (now (out .entry)))) ⌝ }
+    ensures { λ _. ⌜ now (out .exit) ≡ wordBuffer word (now (out .entry)) ⌝ }
+{
+    of_list(print_word(word, out))
 }
