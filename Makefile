@@ -1,6 +1,6 @@
 # The C side: one archive, one header.
 #
-#   make             proves and builds target/staticlib/libseamkettle.a and target/bin/listing, and writes target/seamkettle.pc
+#   make             proves and builds target/staticlib/libseamkettle.a and target/bin/listing
 #   make test        builds the C tests and runs them
 #   make test-replay runs the stored script through the archive, and live ones where the Rust is built (oracle/build)
 #   make fuzz        fuzzes the archive, SECONDS=60 (docs/FUZZING.md)
@@ -8,17 +8,16 @@
 #   make install     installs header, archive, pkg-config file, the listing command and man pages: PREFIX=/usr/local, DESTDIR
 #                    before all paths
 #   make uninstall   removes what it installed
+#   make dist        writes a release, target/dist/seamkettle-VERSION-x86_64.tar.gz, which needs no kit: DIST=target/dist
 #   make clean       removes what was built of C, target/c; proofs and archive stay
 #
 # The archive is proved and built by tools/build, which needs the Rattle kit. LIB=FILE takes an archive that is built elsewhere.
 # All that is built goes to target/.
 
-VERSION = 0.1.0
-PREFIX ?= /usr/local
-DESTDIR ?=
-INSTALL ?= install
 LIB = target/staticlib/libseamkettle.a
-PC = target/seamkettle.pc
+SCRIPT = tools/listing
+PROGRAM = target/bin/listing
+DIST ?= target/dist
 CFLAGS ?= -O2 -g
 CXXFLAGS ?= -O2 -g
 
@@ -34,34 +33,31 @@ STATIC = -static
 RUN = tools/on-x86-64 --static
 endif
 
+INSTALLED = CC='$(CC)' CFLAGS='$(CFLAGS)' LDFLAGS='$(LDFLAGS) $(STATIC)' RUN='$(RUN)'
 COMPILE = $(CC) -std=c99 -Wall -Wextra -pedantic -Iinclude $(CFLAGS)
 STRICT = -Wconversion -Wshadow -Werror
 
 TESTS = count guard machines reference interpreter answers tables programs steps instructions \
-    journals walks texts limits listings damage lengths
-MAN = $(wildcard man/*.1 man/*.3)
+    journals walks texts limits listings prints helpers records wrappers damage lengths
 EXAMPLES = $(patsubst examples/%.c,target/c/%,$(wildcard examples/*.c))
 
-.PHONY: all test test-papers test-entries test-headers test-install test-archive example examples install uninstall clean always
+.PHONY: all test test-papers test-entries test-headers test-install test-dist test-archive example examples dist clean always
 .DELETE_ON_ERROR:
 
-all: $(LIB) $(PC) target/bin/listing
+all: $(LIB) $(PROGRAM)
 
 # tools/build finds out whether there is anything to do
 target/staticlib/libseamkettle.a: always
 	@tools/build seamkettle
 
-$(PC): seamkettle.pc.in always
-	@mkdir -p $(@D)
-	@sed -e 's|@PREFIX@|$(PREFIX)|' -e 's|@VERSION@|$(VERSION)|' $< >$@.new
-	@if cmp -s $@.new $@; then rm $@.new; else mv $@.new $@; fi
-
 # ---- tests and example
 
-test: test-papers test-headers test-entries test-install test-archive
+test: test-papers test-headers test-entries test-install test-dist test-archive
 
-test-papers:
+# the papers beside the sources; the page of the assembly language beside the listing command
+test-papers: $(PROGRAM)
 	tests/c/papers
+	tests/c/asm7 $(SCRIPT)
 
 test-entries: target/c/entries
 	$(RUN) $<
@@ -84,7 +80,16 @@ target/c/header: tests/c/header.cpp include/seamkettle.h $(LIB)
 
 # into a folder of its own, and a program against it
 test-install: all
-	CC='$(CC)' CFLAGS='$(CFLAGS)' LDFLAGS='$(LDFLAGS) $(STATIC)' RUN='$(RUN)' LIB='$(LIB)' tests/c/install $(MAKE)
+	$(INSTALLED) LIB='$(LIB)' tests/c/install $(MAKE)
+
+# the same with a release, where no kit is; then a second build of it
+test-dist: all
+	$(INSTALLED) LIB='$(LIB)' tests/c/dist $(MAKE)
+ifeq ($(LIB),target/staticlib/libseamkettle.a)
+	tests/c/same-bytes $(MAKE)
+else
+	@echo 'tests/c/same-bytes: NOT TRIED, the archive was built elsewhere'
+endif
 
 # what the archive defines and needs, and how much stack each entry takes, beside the header's numbers
 test-archive: target/c/stack
@@ -108,7 +113,7 @@ examples: $(EXAMPLES)
 
 example: examples
 	examples/run $(RUN) target/c/acceptance
-	[ "$$($(RUN) target/c/first)" = 'KETTLE_STOP after 3 steps, A is 42' ]
+	[ "$$($(RUN) target/c/first)" = 'A is 42 after 3 steps' ]
 
 # ---- installing
 
@@ -117,24 +122,10 @@ target/bin/listing: $(LIB)
 	@tools/build listing
 	@touch $@
 
-install: all
-	$(INSTALL) -d '$(DESTDIR)$(PREFIX)/include' '$(DESTDIR)$(PREFIX)/lib/pkgconfig' '$(DESTDIR)$(PREFIX)/bin' \
-	    '$(DESTDIR)$(PREFIX)/libexec/seamkettle'
-	$(INSTALL) -m 755 tools/listing '$(DESTDIR)$(PREFIX)/bin/seamkettle-listing'
-	$(INSTALL) -m 755 target/bin/listing '$(DESTDIR)$(PREFIX)/libexec/seamkettle/listing'
-	$(INSTALL) -m 644 include/seamkettle.h '$(DESTDIR)$(PREFIX)/include/'
-	$(INSTALL) -m 644 $(LIB) '$(DESTDIR)$(PREFIX)/lib/libseamkettle.a'
-	$(INSTALL) -m 644 $(PC) '$(DESTDIR)$(PREFIX)/lib/pkgconfig/seamkettle.pc'
-	for page in $(MAN); do \
-	    folder='$(DESTDIR)$(PREFIX)'/share/man/man$${page##*.}; \
-	    $(INSTALL) -d "$$folder" && $(INSTALL) -m 644 "$$page" "$$folder/" || exit 1; \
-	done
+include release/install.mk
 
-uninstall:
-	rm -f '$(DESTDIR)$(PREFIX)/include/seamkettle.h' '$(DESTDIR)$(PREFIX)/lib/libseamkettle.a' \
-	    '$(DESTDIR)$(PREFIX)/lib/pkgconfig/seamkettle.pc' '$(DESTDIR)$(PREFIX)/bin/seamkettle-listing' \
-	    '$(DESTDIR)$(PREFIX)/libexec/seamkettle/listing'
-	for page in $(MAN); do rm -f '$(DESTDIR)$(PREFIX)'/share/man/man$${page##*.}/$${page##*/} || exit 1; done
+dist: all
+	tools/dist '$(VERSION)' '$(LIB)' '$(PROGRAM)' '$(DIST)'
 
 clean:
 	rm -rf target/c

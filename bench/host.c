@@ -37,7 +37,7 @@ static uint64_t steps;
 
 static void fail(const char *what, uint64_t answer)
 {
-    fprintf(stderr, "host: %s: %u\n", what, kettle_code(answer));
+    fprintf(stderr, "host: %s: %u\n", what, kettle_code_of(answer));
     exit(1);
 }
 
@@ -45,9 +45,9 @@ static void set_up(size_t records)
 {
     static uint8_t words[256];
     uint64_t answer = kettle_assemble((const uint8_t *)program, sizeof program - 1, 1, words, sizeof words);
-    if (kettle_code(answer))
+    if (kettle_code_of(answer))
         fail("assembly", answer);
-    size_t words_len = 2 * (size_t)kettle_words(answer);
+    size_t words_len = kettle_words_len(answer);
     journal_len = records * KETTLE_RECORD_SIZE;
     kettle_fresh(block, 0);
     if ((answer = kettle_device(block, sizeof block, devices, sizeof devices, journal, journal_len, DEVICE, BYTES)) != 0)
@@ -79,9 +79,9 @@ static void look_at_sum(void)
 static void by_run(void)
 {
     uint64_t answer = kettle_run(MACHINE, 100000);
-    if (kettle_code(answer) != KETTLE_STOP)
+    if (kettle_code_of(answer) != KETTLE_STOP)
         fail("run", answer);
-    steps += kettle_above(answer);
+    steps += kettle_steps(answer);
 }
 
 static void by_steps(void)

@@ -52,19 +52,27 @@ struct machine {
     uint8_t journal[RECORDS * KETTLE_RECORD_SIZE];
 };
 
-/* The arguments that functions on a machine begin with: the steps, and the others, which don't look at memory. */
-#define STEPPING(m) \
-    (m)->block, sizeof (m)->block, (m)->memory, sizeof (m)->memory, (m)->devices, sizeof (m)->devices, (m)->journal, \
-        sizeof (m)->journal
-#define SETTING(m) (m)->block, sizeof (m)->block, (m)->devices, sizeof (m)->devices, (m)->journal, sizeof (m)->journal
+/* Where the library finds its bytes. */
+static struct kettle_machine lent(struct machine *m)
+{
+    struct kettle_machine k = {
+        .block = m->block,
+        .memory = m->memory,
+        .memory_len = sizeof m->memory,
+        .devices = m->devices,
+        .devices_len = sizeof m->devices,
+        .journal = m->journal,
+        .journal_len = sizeof m->journal
+    };
 
-/* The site's program, with what is kept to explain a refusal. */
+    return k;
+}
+
+/* The site's program. */
 struct program {
     const char *name;
     uint8_t *text;
     size_t text_len;
-    uint8_t *listing;
-    size_t listing_len;
 };
 
 /* ---- the program ---------------------------------------------------------------------------------------------------------- */
@@ -92,12 +100,11 @@ static int read_text(struct program *p)
     return 0;
 }
 
-/* Lists the program, to show its instructions by. Of a text of over 65,536 bytes the listing is a refusal, which has none. */
-static void list(struct program *p)
+static void say_refused(const char *what, uint64_t answer)
 {
-    uint64_t answer = kettle_list(p->text, p->text_len, p->listing, KETTLE_LISTING_MOST);
+    unsigned code = kettle_code_of(answer);
 
-    p->listing_len = kettle_code(answer) == KETTLE_ACCEPTED ? (size_t)kettle_above(answer) : 0;
+    fprintf(stderr, "%s refused %u %s (%s)\n", what, code, kettle_code_name(code), kettle_code_text(code));
 }
 
 /* Assembles the program into words, which must be no more than fit below the device: else this is KETTLE_PROGRAM_FULL. */
@@ -105,25 +112,27 @@ static int assemble(const struct program *p, uint8_t *words, size_t words_room, 
 {
     uint64_t answer = kettle_assemble(p->text, p->text_len, 1, words, words_room);
 
-    if (kettle_code(answer) != KETTLE_ACCEPTED) {
-        fprintf(stderr, "%s:%llu: refused %u %s\n", p->name, (unsigned long long)kettle_above(answer), kettle_code(answer),
-                kettle_code_name(kettle_code(answer)));
+    if (kettle_code_of(answer) != KETTLE_ACCEPTED) {
+        fprintf(stderr, "%s:%llu:", p->name, (unsigned long long)kettle_line(answer));
+        say_refused("", answer);
         return FAILED;
     }
-    /* A jump to a label that is nowhere goes to 0. That is accepted by the assembler, but must not be run. */
-    if (kettle_open(answer) != 0) {
-        fprintf(stderr, "%s: labels that are not defined are named in %u lines\n", p->name, kettle_open(answer));
+    /* The word of such a line is 0, a NOOP: where a jump was meant, the machine goes on behind it. The assembler accepts that, so
+       that a mistyped label is found here or nowhere. */
+    if (kettle_open_references(answer) != 0) {
+        fprintf(stderr, "%s: references to labels that are not defined: %u\n", p->name, kettle_open_references(answer));
         return FAILED;
     }
-    *words_len = 2 * (size_t)kettle_words(answer);
+    *words_len = kettle_words_len(answer);
     return 0;
 }
 
 static int refused(const struct program *p, const char *what, uint64_t answer)
 {
-    if (kettle_code(answer) == KETTLE_ACCEPTED)
+    if (kettle_code_of(answer) == KETTLE_ACCEPTED)
         return 0;
-    fprintf(stderr, "%s: %s refused %u %s\n", p->name, what, kettle_code(answer), kettle_code_name(kettle_code(answer)));
+    fprintf(stderr, "%s: ", p->name);
+    say_refused(what, answer);
     return FAILED;
 }
 
@@ -131,21 +140,21 @@ static int refused(const struct program *p, const char *what, uint64_t answer)
 static int prepare(struct machine *start, const struct program *p)
 {
     static uint8_t words[DEVICE_START];
+    struct kettle_machine k = lent(start);
     size_t words_len;
 
     if (assemble(p, words, sizeof words, &words_len) != 0)
         return FAILED;
     memset(start, 0, sizeof *start);
     kettle_fresh(start->block, 0);
-    if (refused(p, "the device was", kettle_device(SETTING(start), DEVICE_START, DEVICE_SIZE)) != 0)
+    if (refused(p, "the device was", kettle_machine_device(&k, DEVICE_START, DEVICE_SIZE)) != 0)
         return FAILED;
-    if (refused(p, "loading was", kettle_load(STEPPING(start), words, words_len)) != 0)
+    if (refused(p, "loading was", kettle_machine_load(&k, words, words_len)) != 0)
         return FAILED;
-    /* A load protects half of a program's bytes, as many as it has words. This protects the others; a site whose programs store
-       into themselves has to leave it out. */
-    if (refused(p, "protection was", kettle_protect(SETTING(start), words_len / 2, words_len / 2)) != 0)
+    /* A load protects half of a program's bytes. A site whose programs store into themselves has to leave this out. */
+    if (refused(p, "protection was", kettle_machine_protect_rest(&k, words_len)) != 0)
         return FAILED;
-    return refused(p, "setting B was", kettle_set_register(SETTING(start), KETTLE_B, DEVICE_START));
+    return refused(p, "setting B was", kettle_machine_set_register(&k, KETTLE_B, DEVICE_START));
 }
 
 /* ---- a file --------------------------------------------------------------------------------------------------------------- */
@@ -215,103 +224,64 @@ static void lend(struct machine *m, const struct file *file)
 
 /* ---- what went wrong ------------------------------------------------------------------------------------------------------ */
 
-struct instruction {
-    uint16_t address;
-    uint16_t word;
-    int there; /* 0 where no memory is: then there is no word */
-};
-
-/* The instruction that PC points at. */
-static struct instruction at_pc(const struct machine *m)
+/* Shows the instruction at an address: the word that is there, and what it says, where it says anything. */
+static void show(const struct kettle_machine *k, const char *mark, uint16_t address)
 {
-    struct instruction i = { kettle_register_of(m->block, KETTLE_PC), 0, 0 };
-    uint8_t bytes[2] = { 0, 0 };
-    uint64_t answer = kettle_read(STEPPING(m), i.address, sizeof bytes, bytes, sizeof bytes);
+    uint8_t bytes[2] = { 0, 0 }, text[KETTLE_PRINT_MOST];
+    uint64_t found = kettle_machine_read(k, address, sizeof bytes, bytes, sizeof bytes);
+    uint16_t word = kettle_word(bytes);
 
-    i.there = kettle_code(answer) == KETTLE_ACCEPTED && kettle_above(answer) == sizeof bytes;
-    i.word = kettle_word(bytes);
-    return i;
-}
-
-/* Shows an instruction by its line of the listing, or without its text where no line has this address and word: PC is odd or past
- * the program. */
-static void show(const struct program *p, const char *mark, struct instruction i)
-{
-    const char *line = (const char *)p->listing;
-    const char *end = line + p->listing_len;
-    char wanted[sizeof "0000 0000"];
-    const char *next;
-
-    if (!i.there) {
-        printf("%s%04X, where no memory is\n", mark, (unsigned)i.address);
+    if (kettle_bytes(found) != sizeof bytes) {
+        printf("%s%04X, where no memory is\n", mark, (unsigned)address);
         return;
     }
-    snprintf(wanted, sizeof wanted, "%04X %04X", (unsigned)i.address, (unsigned)i.word);
-    while (line < end && (next = memchr(line, '\n', (size_t)(end - line))) != NULL) {
-        if (next - line > 9 && memcmp(line, wanted, 9) == 0) {
-            printf("%s%.*s\n", mark, (int)(next - line), line);
-            return;
-        }
-        line = next + 1;
-    }
-    printf("%s%s\n", mark, wanted);
+    printf("%s%04X %04X", mark, (unsigned)address, (unsigned)word);
+    found = kettle_print(word, text, sizeof text);
+    if (kettle_code_of(found) == KETTLE_ACCEPTED)
+        printf(" %.*s", (int)kettle_bytes(found), (const char *)text);
+    putchar('\n');
 }
 
-/* Steps back as far as the journal goes and shows the instructions on the way, the oldest first; then, after a refusal, the one
- * that was refused, marked. Memory is stepped back too, so a word is shown as it was when it ran. */
-static void show_last(struct machine *m, const struct program *p, int with_refused)
+/* Shows the last instructions, the oldest first, from the journal's records; then, after a refusal, the one that was refused,
+ * marked. All this only reads. The program is protected, so that its words are those that ran. */
+static void show_last(const struct kettle_machine *k, int with_refused)
 {
-    struct instruction refused_one = at_pc(m);
-    struct instruction last[RECORDS];
-    int n = 0;
+    size_t n = 0;
 
-    while (n < RECORDS && kettle_code(kettle_step_back(STEPPING(m))) == KETTLE_ACCEPTED)
-        last[n++] = at_pc(m);
+    while (kettle_machine_record(k, n) != NULL)
+        n++;
     while (n > 0)
-        show(p, "    ", last[--n]);
+        show(k, "    ", kettle_record_register(kettle_machine_record(k, --n), KETTLE_PC));
     if (with_refused)
-        show(p, "  > ", refused_one);
+        show(k, "  > ", kettle_register_of(k->block, KETTLE_PC));
 }
 
 /* ---- the verdict ---------------------------------------------------------------------------------------------------------- */
 
-/* The run has ended with the machine halted. A store that failed halts it too, whatever A is then. */
-static int halted(const struct machine *m, const struct file *file, unsigned long long steps)
+/* Runs the program on a file. A store that failed halts the machine too, whatever A is then. */
+static int judge(struct machine *m, const struct file *file, uint32_t limit)
 {
-    unsigned flags = kettle_register_of(m->block, KETTLE_FLAGS);
+    struct kettle_machine k = lent(m);
+    uint64_t answer = kettle_machine_run(&k, limit);
+    unsigned steps = kettle_steps(answer), code = kettle_code_of(answer);
+    int accepted = kettle_halted(m->block) && kettle_register_of(m->block, KETTLE_A) == 1;
 
-    if (flags & KETTLE_FLAG_FAILED) {
-        printf("rejected %s (%llu steps, a store failed)\n", file->name, steps);
-        return SOME_REJECTED;
-    }
-    if (kettle_register_of(m->block, KETTLE_A) != 1) {
-        printf("rejected %s (%llu steps)\n", file->name, steps);
-        return SOME_REJECTED;
-    }
-    printf("accepted %s (%llu steps)\n", file->name, steps);
-    return ALL_ACCEPTED;
-}
-
-/* Runs the program on a file. */
-static int judge(struct machine *m, const struct program *p, const struct file *file, uint32_t limit)
-{
-    uint64_t answer = kettle_run(STEPPING(m), limit);
-    unsigned long long steps = kettle_above(answer);
-    unsigned code = kettle_code(answer);
-
-    /* KETTLE_STOP comes from the step after the one that halts; the limit may lie between the two. */
-    if (code == KETTLE_STOP || (code == KETTLE_ACCEPTED && (kettle_register_of(m->block, KETTLE_FLAGS) & KETTLE_FLAG_HALT)))
-        return halted(m, file, steps);
-    if (code == KETTLE_ACCEPTED)
-        printf("rejected %s (%llu steps, no more are allowed)\n", file->name, steps);
+    printf("%s %s (%u steps", accepted ? "accepted" : "rejected", file->name, steps);
+    if (kettle_failed(m->block))
+        printf(", a store failed)\n");
+    else if (kettle_halted(m->block))
+        printf(")\n");
+    else if (code == KETTLE_ACCEPTED)
+        printf(", no more are allowed)\n");
     else
-        printf("rejected %s (%llu steps, refused %u %s)\n", file->name, steps, code, kettle_code_name(code));
-    show_last(m, p, code != KETTLE_ACCEPTED);
-    return SOME_REJECTED;
+        printf(", refused %u %s)\n", code, kettle_code_name(code));
+    if (!kettle_halted(m->block))
+        show_last(&k, code != KETTLE_ACCEPTED && !kettle_failed(m->block));
+    return accepted ? ALL_ACCEPTED : SOME_REJECTED;
 }
 
 /* Takes a file from beginning to end. The machine is static because of its size; a thread needs one of its own. */
-static int receive(const struct machine *start, const struct program *p, const char *name, uint32_t limit)
+static int receive(const struct machine *start, const char *name, uint32_t limit)
 {
     static struct machine m;
     struct file file;
@@ -325,18 +295,18 @@ static int receive(const struct machine *start, const struct program *p, const c
     }
     m = *start;
     lend(&m, &file);
-    return judge(&m, p, &file, limit);
+    return judge(&m, &file, limit);
 }
 
 /* ---- the command ---------------------------------------------------------------------------------------------------------- */
 
 /* The worst that came of any file. */
-static int receive_all(const struct machine *start, const struct program *p, char **names, uint32_t limit)
+static int receive_all(const struct machine *start, char **names, uint32_t limit)
 {
     int worst = ALL_ACCEPTED;
 
     for (; *names != NULL; names++) {
-        int status = receive(start, p, *names, limit);
+        int status = receive(start, *names, limit);
 
         if (status > worst)
             worst = status;
@@ -350,22 +320,19 @@ static int serve(struct program *p, char **names, uint32_t limit)
 
     if (read_text(p) != 0 || prepare(&start, p) != 0)
         return FAILED;
-    list(p);
-    return receive_all(&start, p, names, limit);
+    return receive_all(&start, names, limit);
 }
 
 static int with_program(const char *name, char **names, uint32_t limit)
 {
-    struct program p = { name, NULL, 0, NULL, 0 };
+    struct program p = { name, NULL, 0 };
     int status;
 
     p.text = malloc(TEXT_MOST);
-    p.listing = malloc(KETTLE_LISTING_MOST);
-    if (p.text == NULL || p.listing == NULL)
+    if (p.text == NULL)
         status = complain(name, "there is no memory for it");
     else
         status = serve(&p, names, limit);
-    free(p.listing);
     free(p.text);
     return status;
 }
@@ -388,6 +355,8 @@ int main(int argc, char **argv)
     int option;
     int status;
 
+    if (kettle_version() != KETTLE_VERSION)
+        return complain("libseamkettle.a", "is not of the version that this was compiled for");
     while ((option = getopt(argc, argv, "s:")) == 's')
         limit = steps_of(optarg);
     if (option != -1 || limit == 0 || optind == argc) {

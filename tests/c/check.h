@@ -78,13 +78,14 @@ void put_register(struct machine *m, enum kettle_register r, unsigned value);
 unsigned reg(const struct machine *m, enum kettle_register r);
 unsigned next(const struct machine *m);
 
-/* Each calls its entry, and checks that a refusal, or Stop, has changed nothing (of a load, a run: but for what they keep), and that
- * no byte changed that the entry does not write. */
+/* Each calls its entry, and checks that a refusal, or Stop, has changed nothing (of a load, a run: but for what they keep), and
+ * that no byte changed that the entry does not write. */
 uint64_t step(struct machine *m);
 uint64_t run(struct machine *m, uint32_t steps);
 uint64_t back(struct machine *m);
 uint64_t set(struct machine *m, size_t number, uint16_t value);
 uint64_t protect(struct machine *m, size_t start, size_t len);
+uint64_t protect_rest(struct machine *m, size_t words_len);
 uint64_t device(struct machine *m, size_t start, size_t size);
 uint64_t forget(struct machine *m);
 uint64_t load(struct machine *m, const struct bytes *words);
@@ -92,6 +93,7 @@ uint64_t load_words(struct machine *m, size_t count, const unsigned *words);
 uint64_t read_out(struct machine *m, size_t start, size_t size, struct bytes *buffer);
 uint64_t assemble(const struct bytes *text, int strict, struct bytes *words);
 uint64_t list(const struct bytes *text, struct bytes *out);
+uint64_t print(unsigned word, struct bytes *out);
 
 /* ---- the second reckoning: reference.c, interpreter.c ---------------------------------------------------------------------------- */
 
@@ -126,6 +128,10 @@ void test_walks(void);
 void test_texts(void);
 void test_limits(void);
 void test_listings(void);
+void test_prints(void);
+void test_helpers(void);
+void test_records(void);
+void test_wrappers(void);
 void test_damage(void);
 void test_lengths(void);
 

@@ -83,6 +83,10 @@ int main(void)
     group("texts: plain, strict, refusals and their lines", test_texts);
     group("texts: how many words, labels, open references", test_limits);
     group("listings", test_listings);
+    group("the text of every word, against a second printer", test_prints);
+    group("halted, failed, the rest protected; what hosts are told", test_helpers);
+    group("records, beside step-backs", test_records);
+    group("struct kettle_machine, beside the plain forms", test_wrappers);
     group("blocks and journals with damaged bytes", test_damage);
     group("lengths: nothing, odd ones, gigabytes", test_lengths);
     group("every code that a host can reach was seen", test_seen);

@@ -172,7 +172,8 @@ void test_damage(void)
         if (which == 2) {
             for (unsigned slot = 0; slot < 3; slot++) {
                 put_word(base.block + KETTLE_BLOCK_NEXT, (slot + 1) % 3);
-                every_byte(base.journal + (size_t)KETTLE_RECORD_SIZE * slot, KETTLE_RECORD_SIZE, "a record, its damaged byte", (int)slot);
+                every_byte(base.journal + (size_t)KETTLE_RECORD_SIZE * slot, KETTLE_RECORD_SIZE, "a record, its damaged byte",
+                           (int)slot);
             }
         }
         discard(&m);

@@ -63,7 +63,8 @@ static void labels(void)
         struct bytes text = lines("l%u:\n", n, "DBG\nl5:\nl1022:\n");
         during("labels", (long)n, 0, 0);
         /* a name that is known is no new one */
-        NUMBER(assemble(&text, 1, &program), n <= 1024 ? (uint64_t)1 << 16 | (uint64_t)n << 48 : at_line(KETTLE_TOO_MANY_LABELS, 1025));
+        NUMBER(assemble(&text, 1, &program),
+               n <= 1024 ? (uint64_t)1 << 16 | (uint64_t)n << 48 : at_line(KETTLE_TOO_MANY_LABELS, 1025));
         give_back(&text);
     }
     give_back(&program);

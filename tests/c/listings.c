@@ -66,8 +66,8 @@ static void long_ones(void)
             memcpy(text.at + k * len, forms[i].line, len);
         struct bytes out = lend(KETTLE_LISTING_MOST);
         uint64_t answer = list(&text, &out);
-        NUMBER(kettle_code(answer), KETTLE_ACCEPTED);
-        size_t n = (size_t)kettle_above(answer);
+        NUMBER(kettle_code_of(answer), KETTLE_ACCEPTED);
+        size_t n = kettle_bytes(answer);
         NUMBER(n, words * forms[i].shown + strlen("words  open 0\n") + (words < 10000 ? 4 : 5));
         struct bytes fit = lend(n), tight = lend(n - 1);
         NUMBER(list(&text, &fit), answer);

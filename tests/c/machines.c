@@ -56,24 +56,25 @@ static bool seen[258];
 
 static bool is_refusal(uint64_t answer)
 {
-    CHECK(kettle_code(answer) < 258);
-    if (kettle_code(answer) < 258)
-        seen[kettle_code(answer)] = true;
-    return kettle_code(answer) >= 1 && kettle_code(answer) <= 255;
+    CHECK(kettle_code_of(answer) < 258);
+    if (kettle_code_of(answer) < 258)
+        seen[kettle_code_of(answer)] = true;
+    return kettle_code_of(answer) >= 1 && kettle_code_of(answer) <= 255;
 }
 
 /* all but the registers, next and held */
 static bool tables_kept(const struct machine *m)
 {
-    return memcmp(m->block.copy + KETTLE_BLOCK_DEBUG, m->block.at + KETTLE_BLOCK_DEBUG, KETTLE_BLOCK_NEXT - KETTLE_BLOCK_DEBUG) == 0;
+    size_t from = KETTLE_BLOCK_DEBUG, len = KETTLE_BLOCK_NEXT - KETTLE_BLOCK_DEBUG;
+    return memcmp(m->block.copy + from, m->block.at + from, len) == 0;
 }
 
 uint64_t step(struct machine *m)
 {
     keep_all(m);
     uint64_t answer = kettle_step(ALL(m));
-    NUMBER(kettle_above(answer), 0);
-    if (is_refusal(answer) || kettle_code(answer) == KETTLE_STOP)
+    NUMBER(answer >> 16, 0);
+    if (is_refusal(answer) || kettle_code_of(answer) == KETTLE_STOP)
         CHECK(all_kept(m));
     else
         CHECK(tables_kept(m));
@@ -84,13 +85,13 @@ uint64_t run(struct machine *m, uint32_t steps)
 {
     keep_all(m);
     uint64_t answer = kettle_run(ALL(m), steps);
-    CHECK(kettle_above(answer) <= steps);
-    if (kettle_above(answer) == 0)
+    CHECK(kettle_steps(answer) <= steps);
+    if (kettle_steps(answer) == 0)
         CHECK(all_kept(m));
     else
         CHECK(tables_kept(m));
-    if (!is_refusal(answer) && kettle_code(answer) == KETTLE_ACCEPTED)
-        NUMBER(kettle_above(answer), steps);
+    if (!is_refusal(answer) && kettle_code_of(answer) == KETTLE_ACCEPTED)
+        NUMBER(kettle_steps(answer), steps);
     return answer;
 }
 
@@ -98,7 +99,7 @@ uint64_t back(struct machine *m)
 {
     keep_all(m);
     uint64_t answer = kettle_step_back(ALL(m));
-    NUMBER(kettle_above(answer), 0);
+    NUMBER(answer >> 16, 0);
     CHECK(kept(&m->journal));
     if (is_refusal(answer))
         CHECK(all_kept(m));
@@ -110,7 +111,7 @@ uint64_t back(struct machine *m)
 /* what the four that write the block alone have in common */
 static uint64_t changed(struct machine *m, uint64_t answer)
 {
-    NUMBER(kettle_above(answer), 0);
+    NUMBER(answer >> 16, 0);
     CHECK(kept(&m->devices) && kept(&m->journal) && kept(&m->memory));
     if (is_refusal(answer)) {
         CHECK(kept(&m->block));
@@ -133,6 +134,12 @@ uint64_t protect(struct machine *m, size_t start, size_t len)
     return changed(m, kettle_protect(TABLES(m), start, len));
 }
 
+uint64_t protect_rest(struct machine *m, size_t words_len)
+{
+    keep_all(m);
+    return changed(m, kettle_protect_rest(TABLES(m), words_len));
+}
+
 uint64_t device(struct machine *m, size_t start, size_t size)
 {
     keep_all(m);
@@ -152,7 +159,7 @@ uint64_t load(struct machine *m, const struct bytes *words)
 {
     keep_all(m);
     uint64_t answer = kettle_load(ALL(m), words->at, words->len);
-    NUMBER(kettle_above(answer), 0);
+    NUMBER(answer >> 16, 0);
     CHECK(kept(&m->journal));
     if (is_refusal(answer) && answer != KETTLE_WRITE_FAILED && answer != KETTLE_OVERLAP) {
         CHECK(all_kept(m));
@@ -182,12 +189,12 @@ uint64_t read_out(struct machine *m, size_t start, size_t size, struct bytes *bu
     keep(buffer);
     uint64_t answer = kettle_read(ALL(m), start, size, buffer->at, buffer->len);
     CHECK(all_kept(m));
-    CHECK(kettle_above(answer) <= size && kettle_above(answer) <= buffer->len);
+    CHECK(kettle_bytes(answer) <= size && kettle_bytes(answer) <= buffer->len);
     if (is_refusal(answer)) {
-        NUMBER(kettle_above(answer), 0);
+        NUMBER(answer >> 16, 0);
         CHECK(kept(buffer));
     } else {
-        size_t n = (size_t)kettle_above(answer);
+        size_t n = kettle_bytes(answer);
         CHECK(n == buffer->len || memcmp(buffer->copy + n, buffer->at + n, buffer->len - n) == 0);
     }
     return answer;
@@ -201,10 +208,10 @@ uint64_t assemble(const struct bytes *text, int strict, struct bytes *words)
     if (is_refusal(answer) && answer == KETTLE_BAD_BLOCK) {
         CHECK(all_are(words->at, words->len, 0xcc));
     } else if (is_refusal(answer)) {
-        CHECK(kettle_above(answer) >= 1);
+        CHECK(kettle_line(answer) >= 1);
         CHECK(all_are(words->at, words->len, 0));
     } else {
-        size_t used = 2 * (size_t)kettle_words(answer);
+        size_t used = kettle_words_len(answer);
         CHECK(used <= words->len);
         CHECK(used > words->len || all_are(words->at + used, words->len - used, 0));
     }
@@ -216,7 +223,7 @@ uint64_t list(const struct bytes *text, struct bytes *out)
     if (out->len > 0)
         memset(out->at, 0xcc, out->len);
     uint64_t answer = kettle_list(text->at, text->len, out->at, out->len);
-    size_t n = (size_t)kettle_above(answer);
+    size_t n = kettle_bytes(answer);
     CHECK(n <= out->len && all_are(out->at + n, out->len - n, 0xcc));
     if (is_refusal(answer)) {
         NUMBER(answer, KETTLE_NO_ROOM);
@@ -224,6 +231,21 @@ uint64_t list(const struct bytes *text, struct bytes *out)
     } else {
         CHECK(n > 0 && out->at[n - 1] == 10);
     }
+    return answer;
+}
+
+/* a refusal writes nothing, and what is written ends where the answer says */
+uint64_t print(unsigned word, struct bytes *out)
+{
+    if (out->len > 0)
+        memset(out->at, 0xcc, out->len);
+    uint64_t answer = kettle_print((uint16_t)word, out->at, out->len);
+    size_t n = kettle_bytes(answer);
+    CHECK(n <= out->len && all_are(out->at + n, out->len - n, 0xcc));
+    if (is_refusal(answer))
+        NUMBER(n, 0);
+    else
+        CHECK(n > 0 && kettle_code_of(answer) == KETTLE_ACCEPTED);
     return answer;
 }
 

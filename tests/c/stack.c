@@ -15,8 +15,8 @@
 enum { STACK = 1 << 20, PAINT = 0x5a, TEXT_MOST = 1 << 18 };
 
 static uint8_t stack[STACK] __attribute__((aligned(16)));
-static uint8_t block[KETTLE_BLOCK_SIZE], memory[65536], devices[4096], journal[KETTLE_RECORD_SIZE * KETTLE_RECORD_MOST], words[65540],
-    text[TEXT_MOST], out[KETTLE_LISTING_MOST], buffer[65536];
+static uint8_t block[KETTLE_BLOCK_SIZE], memory[65536], devices[4096], journal[KETTLE_RECORD_SIZE * KETTLE_RECORD_MOST],
+    words[65540], text[TEXT_MOST], out[KETTLE_LISTING_MOST], buffer[65536];
 static size_t text_len;
 static ucontext_t here, there;
 static uint64_t sink;
@@ -75,7 +75,8 @@ static void all_words(uint64_t (*call)(void))
         for (unsigned word = 0; word < 65536; word++) {
             memcpy(block, fresh, sizeof block);
             for (unsigned r = 0; r < 8; r++)
-                put_register((enum kettle_register)r, r == KETTLE_PC ? 0 : r == KETTLE_FLAGS ? (p & 1 ? 10 : 0) : places[(p + r) % 9]);
+                put_register((enum kettle_register)r,
+                             r == KETTLE_PC ? 0 : r == KETTLE_FLAGS ? (p & 1 ? 10 : 0) : places[(p + r) % 9]);
             memory[0] = (uint8_t)word;
             memory[1] = (uint8_t)(word >> 8);
             sink += call();
@@ -150,6 +151,16 @@ static void reads(void)
         sink += kettle_read(MACHINE, start, 65535 - (start < 65535 ? start : 0), buffer, sizeof buffer);
     sink += kettle_read(MACHINE, 0, 65535, buffer, 10);
 }
+
+/* what each word says, in too little room and in enough */
+static void prints(void)
+{
+    for (unsigned word = 0; word < 65536; word++)
+        for (size_t room = 0; room <= KETTLE_PRINT_MOST; room += KETTLE_PRINT_MOST / 2)
+            sink += kettle_print((uint16_t)word, out, room);
+}
+
+static void versions(void) { sink += kettle_version(); }
 
 /* ---- texts ----------------------------------------------------------------------------------------------------------------- */
 
@@ -252,11 +263,13 @@ int main(void)
         {"kettle_device", stack_of(empty, new_devices), KETTLE_STACK_OTHER},
         {"kettle_forget", stack_of(full, forgets), KETTLE_STACK_OTHER},
         {"kettle_read", stack_of(full, reads), KETTLE_STACK_OTHER},
+        {"kettle_print", stack_of(NULL, prints), KETTLE_STACK_OTHER},
+        {"kettle_version", stack_of(NULL, versions), KETTLE_STACK_OTHER},
     };
     int failed = 0;
     for (unsigned i = 0; i < sizeof rows / sizeof *rows; i++) {
         size_t used = rows[i].used - base;
-        printf("%-16s %7zu of %7zu bytes\n", rows[i].name, used, rows[i].most);
+        printf("%-20s %7zu of %7zu bytes\n", rows[i].name, used, rows[i].most);
         failed |= used > rows[i].most;
     }
     return failed;

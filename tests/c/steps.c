@@ -93,8 +93,8 @@ static void memories(void)
         put_register(&m, KETTLE_PC, 0);
         uint64_t answer = run(&m, 100000);
         /* from 0 on, every word that is there, up to that at 65,534 */
-        NUMBER(kettle_above(answer), n >= 65536 ? 32767 : n / 2);
-        NUMBER(kettle_code(answer), n >= 65536 ? KETTLE_PC_OVERFLOW : KETTLE_FETCH_UNMAPPED);
+        NUMBER(kettle_steps(answer), n >= 65536 ? 32767 : n / 2);
+        NUMBER(kettle_code_of(answer), n >= 65536 ? KETTLE_PC_OVERFLOW : KETTLE_FETCH_UNMAPPED);
         NUMBER(reg(&m, KETTLE_PC), n >= 65536 ? 65534 : n / 2 * 2);
         CHECK(all_are(m.memory.at, n, 0));
         discard(&m);

@@ -67,7 +67,7 @@ static void set_out(struct machine *m)
 
 static bool is_accepted(uint64_t answer)
 {
-    return kettle_code(answer) == KETTLE_ACCEPTED || kettle_code(answer) == KETTLE_DEBUG;
+    return kettle_code_of(answer) == KETTLE_ACCEPTED || kettle_code_of(answer) == KETTLE_DEBUG;
 }
 
 /* a run is so many steps: they are made one by one on a copy */

@@ -24,12 +24,12 @@ enum {
 };
 
 enum entry {
-    ASSEMBLE, LOAD, STEP, RUN, STEP_BACK, SET_REGISTER, PROTECT, DEVICE, FORGET, READ, LIST, ENTRIES
+    ASSEMBLE, LOAD, STEP, RUN, STEP_BACK, SET_REGISTER, PROTECT, DEVICE, FORGET, READ, LIST, PRINT, ENTRIES
 };
 
 static const char *const entry_names[ENTRIES] = {
-    "kettle_assemble", "kettle_load", "kettle_step", "kettle_run", "kettle_step_back", "kettle_set_register", "kettle_protect", "kettle_device", "kettle_forget",
-    "kettle_read", "kettle_list"
+    "kettle_assemble", "kettle_load", "kettle_step", "kettle_run", "kettle_step_back", "kettle_set_register",
+    "kettle_protect", "kettle_device", "kettle_forget", "kettle_read", "kettle_list", "kettle_print"
 };
 
 static struct lent block, memory, devices, journal, words, text, out, buffer;
@@ -84,7 +84,7 @@ static void larger(uint64_t *most, uint64_t n)
 /* every answer comes by here */
 static uint64_t answered(enum entry e, uint64_t answer)
 {
-    unsigned code = kettle_code(answer);
+    unsigned code = kettle_code_of(answer);
     DEMAND(code <= KETTLE_BAD_BLOCK || code == KETTLE_DEBUG || code == KETTLE_STOP);
     DEMAND(fenced(&block) && fenced(&memory) && fenced(&devices) && fenced(&journal));
     DEMAND(fenced(&words) && fenced(&text) && fenced(&out) && fenced(&buffer));
@@ -186,7 +186,7 @@ static uint64_t one_step(void)
             kinds[kind]++;
     }
     /* how instructions were answered, where one was fetched */
-    unsigned op = word & 15, flags = before.block_len > 15 ? reg(&before, KETTLE_FLAGS) & 15 : 0, code = kettle_code(answer);
+    unsigned op = word & 15, flags = before.block_len > 15 ? reg(&before, KETTLE_FLAGS) & 15 : 0, code = kettle_code_of(answer);
     if (fetch_rule(&before, &word) == 0 || (code >= KETTLE_BAD_OPCODE && code <= KETTLE_BAD_ARITH))
         stepped[op][code]++;
     reached(100 + op, code, kind, flags);
@@ -221,7 +221,7 @@ static uint32_t steps_left; /* of this input, so that none takes long */
 static uint64_t plain_step(void)
 {
     uint64_t answer = answered(STEP, kettle_step(MACHINE));
-    reached(310, kettle_code(answer), 0, 0);
+    reached(310, kettle_code_of(answer), 0, 0);
     return answer;
 }
 
@@ -249,7 +249,7 @@ static void do_run(uint32_t steps)
     DEMAND(answer == (single | (uint64_t)count << 16));
     DEMAND(is_now(&run_after));
     larger(&longest_run, count);
-    reached(300, kettle_code(answer), magnitude(count), steps == UINT32_MAX);
+    reached(300, kettle_code_of(answer), magnitude(count), steps == UINT32_MAX);
     if (count && count <= slots(&run_before)) {
         for (uint32_t i = 0; i < count; i++)
             DEMAND(answered(STEP_BACK, kettle_step_back(MACHINE)) == 0);
@@ -266,8 +266,8 @@ static uint64_t by_rule(enum entry e, uint64_t rule, uint64_t answer)
     DEMAND(answer == rule);
     DEMAND(is_now(&want));
     if (want.block_len > KETTLE_BLOCK_DEVICE_COUNT)
-        reached(400 + e, kettle_code(answer), want.block[KETTLE_BLOCK_PROTECTED], want.block[KETTLE_BLOCK_DEVICE_COUNT]);
-    reached(500 + e, kettle_code(answer), magnitude(kettle_above(answer)), 0);
+        reached(400 + e, kettle_code_of(answer), want.block[KETTLE_BLOCK_PROTECTED], want.block[KETTLE_BLOCK_DEVICE_COUNT]);
+    reached(500 + e, kettle_code_of(answer), magnitude(answer >> 16), 0);
     return answer;
 }
 
@@ -277,8 +277,15 @@ static void do_step_back(void)
     look(&want);
     if (!unfit(&want) && kettle_held(want.block))
         kind = want.journal[(next_slot(&want) + slots(&want) - 1) % slots(&want) * KETTLE_RECORD_SIZE];
+    /* the newest record, looked at, has the registers that stepping back restores */
+    const uint8_t *newest = unfit(&want) ? NULL : kettle_record(want.block, want.journal, want.journal_len, 0);
+    uint8_t registers[16] = { 0 };
+    if (newest)
+        memcpy(registers, newest + KETTLE_RECORD_REGISTERS, sizeof registers);
+    DEMAND(unfit(&want) || !newest == !kettle_held(want.block));
     uint64_t answer = by_rule(STEP_BACK, step_back_rule(&want), kettle_step_back(MACHINE));
-    reached(600, kind < 4 ? kind : 4, kettle_code(answer), 0);
+    DEMAND(answer || (newest && !memcmp(block.at + KETTLE_BLOCK_REGISTERS, registers, sizeof registers)));
+    reached(600, kind < 4 ? kind : 4, kettle_code_of(answer), 0);
 }
 
 static void do_read(size_t start, size_t size, size_t room)
@@ -327,24 +334,24 @@ static uint64_t assembled(uint8_t strict, size_t words_len)
     lend(&words, words_len, low);
     memset(words.at, FRESH_BYTE, words_len);
     uint64_t answer = answered(ASSEMBLE, kettle_assemble(BYTES(text), strict, BYTES(words)));
-    unsigned code = kettle_code(answer);
+    unsigned code = kettle_code_of(answer);
     if (words_len % 2) {
         DEMAND(answer == KETTLE_BAD_BLOCK && all(words.at, words_len, FRESH_BYTE));
     } else if (code == 0) {
         DEMAND(kettle_words(answer) <= words_len / 2 && kettle_words(answer) <= KETTLE_WORDS_MOST);
-        DEMAND(kettle_open(answer) <= 512 && kettle_labels(answer) <= 1024);
+        DEMAND(kettle_open_references(answer) <= 512 && kettle_labels(answer) <= 1024);
         DEMAND(all(words.at + 2 * kettle_words(answer), words_len - 2 * kettle_words(answer), 0));
         larger(&most_words, kettle_words(answer));
-        larger(&most_open, kettle_open(answer));
+        larger(&most_open, kettle_open_references(answer));
         larger(&most_labels, kettle_labels(answer));
-        reached(700, magnitude(kettle_words(answer)), magnitude(kettle_open(answer)), magnitude(kettle_labels(answer)));
+        reached(700, magnitude(kettle_words(answer)), magnitude(kettle_open_references(answer)), magnitude(kettle_labels(answer)));
     } else {
         DEMAND((code >= KETTLE_INVALID_REGISTER && code <= KETTLE_INVALID_INSTRUCTION) || code == KETTLE_INVALID_IMMEDIATE
                || (code >= KETTLE_NOT_ASCII && code <= KETTLE_FIELD_TOO_WIDE));
         DEMAND(strict || code != KETTLE_FIELD_TOO_WIDE);
-        DEMAND(kettle_above(answer) >= 1 && kettle_above(answer) <= lines_in(text.at, text.len));
+        DEMAND(kettle_line(answer) >= 1 && kettle_line(answer) <= lines_in(text.at, text.len));
         DEMAND(all(words.at, words_len, 0));
-        reached(701, code, magnitude(kettle_above(answer)), strict != 0);
+        reached(701, code, magnitude(kettle_line(answer)), strict != 0);
     }
     return answer;
 }
@@ -366,29 +373,66 @@ static void lend_out(size_t len)
     lend(&out, len, low);
 }
 
+/* Which refusal a word has that says no instruction; 0 for one that says one. */
+static uint64_t says(unsigned word)
+{
+    unsigned op = word & 15, which = word >> 7 & 7;
+    if (op > 11)
+        return KETTLE_BAD_OPCODE;
+    if (op == 7 && which > 5)
+        return KETTLE_BAD_COMPARE;
+    return op == 10 && which == 7 ? KETTLE_BAD_ARITH : 0;
+}
+
+/* A word's text into so much room: all of it, or nothing and why. It is left in `buffer`. */
+static uint64_t do_print(unsigned word, size_t room)
+{
+    lend(&buffer, room, low);
+    memset(buffer.at, FRESH_BYTE, room);
+    uint64_t answer = answered(PRINT, kettle_print((uint16_t)word, BYTES(buffer)));
+    size_t len = kettle_bytes(answer);
+    if (says(word))
+        DEMAND(answer == says(word));
+    else
+        DEMAND(answer == KETTLE_NO_ROOM || (kettle_code_of(answer) == 0 && len >= 3 && len <= KETTLE_PRINT_MOST));
+    DEMAND(room < KETTLE_PRINT_MOST || answer != KETTLE_NO_ROOM);
+    DEMAND(len <= room && all(buffer.at + len, room - len, FRESH_BYTE));
+    reached(703, word & 15, kettle_code_of(answer), (unsigned)at_most(room, 32));
+    return answer;
+}
+
+/* A line of the listing ends with what its word says; one byte less has no room for it. */
+static void line_says(unsigned word, const uint8_t *said, size_t len)
+{
+    DEMAND(do_print(word, len) == (uint64_t)len << 16 && !memcmp(buffer.at, said, len));
+    DEMAND(do_print(word, len - 1) == KETTLE_NO_ROOM);
+}
+
 /* The listing beside the strictly assembled words. */
 static void do_list(size_t room)
 {
     uint64_t by_words = assembled(1, 2 * KETTLE_WORDS_MOST);
     lend_out(OUT_MOST);
     uint64_t answer = answered(LIST, kettle_list(BYTES(text), BYTES(out)));
-    DEMAND(kettle_code(answer) == 0);
-    size_t len = kettle_above(answer), at = 0;
+    DEMAND(kettle_code_of(answer) == 0);
+    size_t len = kettle_bytes(answer), at = 0;
     DEMAND(len <= OUT_MOST && all(out.at + len, at_most(OUT_MOST - len, 4096), FRESH_BYTE));
     char last[64];
     if (text.len > 65536) {
         snprintf(last, sizeof last, "refused 19 line 0\n");
-    } else if (kettle_code(by_words)) {
-        snprintf(last, sizeof last, "refused %u line %llu\n", kettle_code(by_words), (unsigned long long)kettle_above(by_words));
+    } else if (kettle_code_of(by_words)) {
+        snprintf(last, sizeof last, "refused %u line %llu\n", kettle_code_of(by_words), (unsigned long long)kettle_line(by_words));
     } else {
         for (unsigned i = 0; i < kettle_words(by_words); i++) {
             DEMAND(len - at > 10 && hex_digits(out.at + at) == 2 * i && out.at[at + 4] == ' ' && out.at[at + 9] == ' ');
             DEMAND(hex_digits(out.at + at + 5) == kettle_word(words.at + 2 * i));
             uint8_t *end = (uint8_t *)memchr(out.at + at, '\n', len - at);
             DEMAND(end && end > out.at + at + 10);
+            if (i < 64)
+                line_says(kettle_word(words.at + 2 * i), out.at + at + 10, (size_t)(end - out.at) - at - 10);
             at = (size_t)(end - out.at) + 1;
         }
-        snprintf(last, sizeof last, "words %u open %u\n", kettle_words(by_words), kettle_open(by_words));
+        snprintf(last, sizeof last, "words %u open %u\n", (unsigned)kettle_words(by_words), kettle_open_references(by_words));
     }
     DEMAND(len - at == strlen(last) && !memcmp(out.at + at, last, len - at));
     larger(&longest_listing, len);
@@ -422,11 +466,11 @@ static uint64_t do_assemble(uint8_t strict, size_t words_len)
         DEMAND(assembled(1, words_len) == strictly && !memcmp(words.at, kept, words_len));
     uint64_t plainly = assembled(0, words_len);
     larger(&longest_text, text.len);
-    if (kettle_code(strictly) != KETTLE_FIELD_TOO_WIDE) {
+    if (kettle_code_of(strictly) != KETTLE_FIELD_TOO_WIDE) {
         DEMAND(plainly == strictly && !memcmp(words.at, kept, words_len));
     } else {
         /* plainly it is refused no earlier */
-        DEMAND(kettle_code(plainly) == 0 || kettle_above(plainly) >= kettle_above(strictly));
+        DEMAND(kettle_code_of(plainly) == 0 || kettle_line(plainly) >= kettle_line(strictly));
     }
     return plainly;
 }
@@ -539,7 +583,7 @@ static void call(unsigned which)
         do_load(bytes, 2 * a);
         break;
     case 5:
-        do_load(bytes, kettle_code(plainly) ? 0 : at_most(2 * kettle_words(plainly), WORDS_MOST));
+        do_load(bytes, kettle_code_of(plainly) ? 0 : at_most(2 * kettle_words(plainly), WORDS_MOST));
         break;
     case 6: do_step(); break;
     case 7: do_run((uint32_t)take(2)); break;
@@ -584,6 +628,10 @@ static void call(unsigned which)
     case 19:
         for (a = take(1); a; a--)
             do_step_back();
+        break;
+    case 20:
+        a = take(2);
+        do_print((unsigned)a, take(1));
         break;
     default: break;
     }

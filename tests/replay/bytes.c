@@ -1,5 +1,6 @@
-/* Single bytes and words. No entry has the name of these commands, but two can be asked: kettle_read shows a byte, and kettle_step_back
- * over a record written by hand stores one, by the rule of every store. Neither looks at this block's own journal. */
+/* Single bytes and words. No entry has the name of these commands, but two can be asked: kettle_read shows a byte, and
+ * kettle_step_back over a record written by hand stores one, by the rule of every store. Neither looks at this block's own
+ * journal. */
 #include "host.h"
 
 /* the block with another, empty cursor */
@@ -29,9 +30,9 @@ static enum outcome shown(struct job *job, size_t size)
         return TOP_ADDRESS;
     block_apart(h, block);
     answer = kettle_read(block, sizeof block, LENT(h->memory), LENT(h->devices), NULL, 0, a, size, found, size);
-    if (kettle_code(answer) != KETTLE_ACCEPTED)
+    if (kettle_code_of(answer) != KETTLE_ACCEPTED)
         say_answer(&job->got, answer);
-    else if (kettle_above(answer) < size)
+    else if (kettle_bytes(answer) < size)
         out_text(&job->got, "none");
     else
         out_number(&job->got, kettle_word(found));
@@ -100,7 +101,7 @@ static uint64_t store(struct host *h, uint16_t a, uint8_t v)
 
 static enum outcome stored(struct job *job, uint64_t answer)
 {
-    if (kettle_code(answer) == KETTLE_BAD_JOURNAL)
+    if (kettle_code_of(answer) == KETTLE_BAD_JOURNAL)
         out_text(&job->got, "failed");
     else
         say_answer(&job->got, answer);
@@ -129,7 +130,7 @@ static uint64_t top_store(struct host *h)
         memcpy(h->devices.bytes, devices.bytes, devices.len);
     lent_return(&memory);
     lent_return(&devices);
-    return kettle_code(answer) == KETTLE_ACCEPTED ? KETTLE_ADDRESS_OVERFLOW : answer;
+    return kettle_code_of(answer) == KETTLE_ACCEPTED ? KETTLE_ADDRESS_OVERFLOW : answer;
 }
 
 enum outcome do_putw(struct job *job)
@@ -141,7 +142,7 @@ enum outcome do_putw(struct job *job)
     if (a == 65535)
         return stored(job, top_store(job->host));
     answer = store(job->host, a, (uint8_t)(w & 255));
-    if (kettle_code(answer) == KETTLE_ACCEPTED)
+    if (kettle_code_of(answer) == KETTLE_ACCEPTED)
         answer = store(job->host, (uint16_t)(a + 1), (uint8_t)(w >> 8));
     return stored(job, answer);
 }

@@ -111,7 +111,8 @@ static int table_into(struct job *job, size_t count_at, size_t at)
 enum outcome do_tables(struct job *job)
 {
     job->host->wide = 0;
-    if (!table_into(job, KETTLE_BLOCK_PROTECTED, KETTLE_BLOCK_REGIONS) || !table_into(job, KETTLE_BLOCK_DEVICE_COUNT, KETTLE_BLOCK_DEVICES))
+    if (!table_into(job, KETTLE_BLOCK_PROTECTED, KETTLE_BLOCK_REGIONS) ||
+        !table_into(job, KETTLE_BLOCK_DEVICE_COUNT, KETTLE_BLOCK_DEVICES))
         return UNREADABLE;
     return BY_HOST;
 }

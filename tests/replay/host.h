@@ -47,7 +47,7 @@ command do_set, do_protect, do_device, do_load, do_loadn, do_read, do_step, do_r
 /* in bytes.c */
 command do_byte, do_word, do_put, do_putw;
 /* in texts.c */
-command do_asm, do_asmn, do_listing;
+command do_asm, do_asmn, do_listing, do_print, do_decode;
 
 /* `ok` or `no N`; what stands above the code, where nothing should, is shown too */
 void say_answer(struct out *o, uint64_t answer);

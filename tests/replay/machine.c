@@ -5,15 +5,15 @@ enum { WORDS_MOST = 32800, ROOM_MOST = 65600 };
 
 void say_answer(struct out *o, uint64_t answer)
 {
-    if (kettle_code(answer) == KETTLE_ACCEPTED) {
+    if (kettle_code_of(answer) == KETTLE_ACCEPTED) {
         out_text(o, "ok");
     } else {
         out_text(o, "no ");
-        out_number(o, kettle_code(answer));
+        out_number(o, kettle_code_of(answer));
     }
-    if (kettle_above(answer) != 0) {
+    if (answer >> 16 != 0) {
         out_text(o, " above ");
-        out_number(o, kettle_above(answer));
+        out_number(o, answer >> 16);
     }
 }
 
@@ -130,8 +130,8 @@ enum outcome do_read(struct job *job)
         return WIDE_COUNT;
     buffer = lend((size_t)room, 0xEE);
     answer = kettle_read(WHOLE(job->host), start, (size_t)size, LENT(buffer));
-    if (kettle_code(answer) == KETTLE_ACCEPTED)
-        out_number(&job->got, kettle_above(answer));
+    if (kettle_code_of(answer) == KETTLE_ACCEPTED)
+        out_number(&job->got, kettle_bytes(answer));
     else
         say_answer(&job->got, answer);
     out_text(&job->got, " ");
@@ -158,8 +158,8 @@ enum outcome do_step(struct job *job)
     if (job->host->wide)
         return WIDE_COUNT;
     answer = kettle_step(WHOLE(job->host));
-    say_step(&job->got, kettle_code(answer));
-    if (kettle_above(answer) != 0)
+    say_step(&job->got, kettle_code_of(answer));
+    if (answer >> 16 != 0)
         out_text(&job->got, " above");
     return COMPARED;
 }
@@ -172,8 +172,8 @@ enum outcome do_run(struct job *job)
     if (job->host->wide)
         return WIDE_COUNT;
     answer = kettle_run(WHOLE(job->host), (uint32_t)steps);
-    say_step(&job->got, kettle_code(answer));
+    say_step(&job->got, kettle_code_of(answer));
     out_text(&job->got, " ");
-    out_number(&job->got, kettle_above(answer));
+    out_number(&job->got, kettle_steps(answer));
     return COMPARED;
 }

@@ -1,9 +1,9 @@
-/* Texts: assembled into words, and listed. */
+/* Texts: assembled into words, and listed; and the text of one word. */
 #include "host.h"
 
 #include <stdlib.h>
 
-enum { LABELS = 1024, WORDS_MOST = 32800, LABELS_MOST = 1100, COPIES_MOST = 131200 };
+enum { LABELS = 1024, WORDS_MOST = 32800, LABELS_MOST = 1100, COPIES_MOST = 131200, ROOM_MOST = 65600 };
 
 struct rules {
     int strict;
@@ -76,18 +76,18 @@ static uint64_t shortened(const struct rules *r, struct lent *text)
 static void say_assembled(struct out *o, uint64_t answer, uint64_t before, const struct lent *words)
 {
     size_t i;
-    if (kettle_code(answer) == KETTLE_ACCEPTED) {
+    if (kettle_code_of(answer) == KETTLE_ACCEPTED) {
         out_text(o, "ok ");
         out_number(o, kettle_words(answer));
         out_text(o, " ");
         out_number(o, kettle_labels(answer));
         out_text(o, " ");
-        out_number(o, kettle_open(answer));
+        out_number(o, kettle_open_references(answer));
     } else {
         out_text(o, "no ");
-        out_number(o, kettle_code(answer));
+        out_number(o, kettle_code_of(answer));
         out_text(o, " line ");
-        out_number(o, kettle_above(answer) - before);
+        out_number(o, kettle_line(answer) - before);
     }
     out_text(o, " | ");
     for (i = 0; i < words->len; i += 2) {
@@ -107,7 +107,7 @@ static enum outcome assembled(struct job *job, const struct rules *r, struct len
         before = shortened(r, text);
     lent_keep(text);
     answer = kettle_assemble(LENT(*text), strict, LENT(words));
-    if (!hangs_on_labels(job, r, kettle_code(answer))) {
+    if (!hangs_on_labels(job, r, kettle_code_of(answer))) {
         job->expected.len = bar(job->expected, bar(job->expected, 0) + 3);
         say_assembled(&job->got, answer, before, &words);
         done = COMPARED;
@@ -179,13 +179,59 @@ enum outcome do_listing(struct job *job)
     out = lend(job->expected.len / 2, 0xEE);
     lent_keep(&bytes);
     answer = kettle_list(LENT(bytes), LENT(out));
-    if (kettle_code(answer) == KETTLE_ACCEPTED && kettle_above(answer) <= out.len)
-        out_hex(&job->got, out.bytes, (size_t)kettle_above(answer));
+    if (kettle_code_of(answer) == KETTLE_ACCEPTED && kettle_bytes(answer) <= out.len)
+        out_hex(&job->got, out.bytes, kettle_bytes(answer));
     else
         say_answer(&job->got, answer);
     if (!refuses_less(&bytes, out.len - 1))
         out_text(&job->got, " and not 19 with one byte less");
     lent_return(&bytes);
+    lent_return(&out);
+    return COMPARED;
+}
+
+/* ---- one word ------------------------------------------------------------------------------------------------------------ */
+
+/* A word that says no instruction is answered by its number alone, the buffer being as it was. */
+static int says_nothing(unsigned code)
+{
+    return code >= KETTLE_BAD_OPCODE && code <= KETTLE_BAD_ARITH;
+}
+
+enum outcome do_print(struct job *job)
+{
+    struct lent out;
+    uint64_t answer, room;
+    uint16_t w;
+    if (!word(&job->fields, &w) || !number(&job->fields, ROOM_MOST, &room))
+        return UNREADABLE;
+    out = lend((size_t)room, 0xEE);
+    answer = kettle_print(w, LENT(out));
+    if (kettle_code_of(answer) == KETTLE_ACCEPTED)
+        out_number(&job->got, kettle_bytes(answer));
+    else
+        say_answer(&job->got, answer);
+    if (!says_nothing(kettle_code_of(answer))) {
+        out_text(&job->got, " ");
+        out_hex(&job->got, LENT(out));
+    }
+    lent_return(&out);
+    return COMPARED;
+}
+
+enum outcome do_decode(struct job *job)
+{
+    struct lent out;
+    uint64_t answer;
+    uint16_t w;
+    if (!word(&job->fields, &w))
+        return UNREADABLE;
+    out = lend(KETTLE_PRINT_MOST + 1, 0);
+    answer = kettle_print(w, out.bytes, KETTLE_PRINT_MOST);
+    if (kettle_code_of(answer) == KETTLE_ACCEPTED)
+        out_text(&job->got, (const char *)out.bytes);
+    else
+        say_answer(&job->got, answer);
     lent_return(&out);
     return COMPARED;
 }

@@ -41,12 +41,12 @@ static const struct row rows[] = {
     {"asm", do_asm, "kettle_assemble"},
     {"asmn", do_asmn, "kettle_assemble"},
     {"listing", do_listing, "kettle_list"},
+    {"print", do_print, "kettle_print"},
+    {"decode", do_decode, "kettle_print"},
     {"byte", do_byte, NULL},
     {"word", do_word, NULL},
     {"put", do_put, NULL},
     {"putw", do_putw, NULL},
-    {"decode", NULL, NULL},
-    {"print", NULL, NULL},
     {"encode", NULL, NULL},
     {"line", NULL, NULL},
     {"(no command)", NULL, NULL},
@@ -54,8 +54,10 @@ static const struct row rows[] = {
 
 enum { ROWS = sizeof rows / sizeof rows[0] };
 
-static const char *const entries[] = {"kettle_assemble", "kettle_load",   "kettle_step",   "kettle_run",  "kettle_step_back", "kettle_set_register",
-                                      "kettle_protect",  "kettle_device", "kettle_forget", "kettle_read", "kettle_list"};
+static const char *const entries[] = {
+    "kettle_assemble", "kettle_load", "kettle_step", "kettle_run", "kettle_step_back", "kettle_set_register",
+    "kettle_protect", "kettle_device", "kettle_forget", "kettle_read", "kettle_list", "kettle_print",
+};
 
 static const char *const reasons[OUTCOMES] = {
     [NO_ENTRY] = "commands that no entry stands for",
