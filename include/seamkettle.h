@@ -236,8 +236,8 @@ static inline size_t kettle_words_len(uint64_t answer)
     return 2 * kettle_words(answer);
 }
 
-/* how many references an accepted kettle_assemble left open: their labels are never defined, a mistyped one is among them. The word
- * of each is 0, a NOOP, and the machine goes on behind it. Take a text with any for a refused one. 0 of a refused one. */
+/* how many references an accepted kettle_assemble left open: to labels that the text never defines, as a mistyped one. The word of
+ * each is 0, a NOOP, and the machine goes on behind it. Take a text with any for a refused one. 0 of a refused one. */
 static inline unsigned kettle_open_references(uint64_t answer)
 {
     return kettle_code_of(answer) == KETTLE_ACCEPTED ? KETTLE_CAST(unsigned, answer >> 32 & 0xffff) : 0;
@@ -258,11 +258,13 @@ static inline void kettle_fresh(uint8_t block[KETTLE_BLOCK_SIZE], int debug)
     block[KETTLE_BLOCK_DEBUG] = debug ? 1 : 0;
 }
 
+/* the word in two bytes, the low one first */
 static inline uint16_t kettle_word(const uint8_t *bytes)
 {
     return KETTLE_CAST(uint16_t, bytes[0] + 256 * bytes[1]);
 }
 
+/* a register of the machine */
 static inline uint16_t kettle_register_of(const uint8_t *block, enum kettle_register r)
 {
     return kettle_word(block + KETTLE_BLOCK_REGISTERS + 2 * KETTLE_CAST(size_t, r));
@@ -422,7 +424,8 @@ struct kettle_machine {
     (m)->block, KETTLE_BLOCK_SIZE, (m)->memory, (m)->memory_len, (m)->devices, (m)->devices_len, (m)->journal, (m)->journal_len
 #define KETTLE_TABLES(m) (m)->block, KETTLE_BLOCK_SIZE, (m)->devices, (m)->devices_len, (m)->journal, (m)->journal_len
 
-KETTLE_LOOK static inline uint64_t kettle_machine_load(const struct kettle_machine *m, const uint8_t *words, size_t words_len)
+KETTLE_LOOK KETTLE_IN(2)
+static inline uint64_t kettle_machine_load(const struct kettle_machine *m, const uint8_t *words, size_t words_len)
 {
     return kettle_load(KETTLE_ALL(m), words, words_len);
 }
@@ -467,8 +470,9 @@ KETTLE_LOOK static inline uint64_t kettle_machine_forget(const struct kettle_mac
     return kettle_forget(KETTLE_TABLES(m));
 }
 
-KETTLE_LOOK static inline uint64_t kettle_machine_read(const struct kettle_machine *m, size_t start, size_t size, uint8_t *buffer,
-                                                       size_t buffer_len)
+KETTLE_LOOK KETTLE_OUT(4)
+static inline uint64_t kettle_machine_read(const struct kettle_machine *m, size_t start, size_t size, uint8_t *buffer,
+                                           size_t buffer_len)
 {
     return kettle_read(KETTLE_ALL(m), start, size, buffer, buffer_len);
 }

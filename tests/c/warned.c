@@ -6,7 +6,7 @@
 #include "seamkettle.h"
 
 uint64_t ignored(const struct kettle_machine *m);
-uint64_t too_short(void);
+uint64_t too_short(const struct kettle_machine *m);
 
 static uint8_t block[KETTLE_BLOCK_SIZE], memory[64], devices[4], journal[KETTLE_RECORD_SIZE], words[4], out[4];
 static const uint8_t text[4] = {'R', 'E', 'T', '\n'};
@@ -103,7 +103,14 @@ static uint64_t short_machines(void)
     return sum;
 }
 
-uint64_t too_short(void)
+static uint64_t short_wrapped(const struct kettle_machine *m)
 {
-    return short_texts() + short_tables() + short_machines();
+    uint64_t sum = kettle_machine_load(m, words, 6);                 // stringop-overread
+    sum += kettle_machine_read(m, 0, 4, out, 5);                     // stringop-overflow
+    return sum;
+}
+
+uint64_t too_short(const struct kettle_machine *m)
+{
+    return short_texts() + short_tables() + short_machines() + short_wrapped(m);
 }
