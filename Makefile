@@ -58,6 +58,8 @@ test: test-papers test-headers test-entries test-install test-dist test-archive
 test-papers: $(PROGRAM)
 	tests/c/papers
 	tests/c/asm7 $(SCRIPT)
+	@if command -v mandoc >/dev/null; then echo mandoc $(MAN) && mandoc -T lint -W warning $(MAN); \
+	    else echo 'the form of the man pages: NOT TRIED, mandoc is not here'; fi
 
 test-entries: target/c/entries
 	$(RUN) $<
