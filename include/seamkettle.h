@@ -53,11 +53,13 @@ extern "C" {
 
 /* ---- for this header alone: undefined again at its end -------------------------------------------------------------------- */
 
-/* a cast that neither C nor C++ warns of */
+/* a cast and a null pointer that neither C nor C++ warns of */
 #ifdef __cplusplus
 #define KETTLE_CAST(type, x) static_cast<type>(x)
+#define KETTLE_NULL nullptr
 #else
 #define KETTLE_CAST(type, x) ((type)(x))
+#define KETTLE_NULL NULL
 #endif
 
 /* an answer that must be looked at */
@@ -301,7 +303,7 @@ static inline const uint8_t *kettle_record(const uint8_t *block, const uint8_t *
     if (room > KETTLE_RECORD_MOST)
         room = KETTLE_RECORD_MOST;
     if (i >= kettle_held(block) || kettle_held(block) > room || next >= room)
-        return NULL;
+        return KETTLE_NULL;
     return journal + KETTLE_RECORD_SIZE * ((next + room - 1 - i) % room);
 }
 
@@ -492,6 +494,7 @@ static inline const uint8_t *kettle_machine_record(const struct kettle_machine *
 #undef KETTLE_BOTH
 #undef KETTLE_LOOK
 #undef KETTLE_CAST
+#undef KETTLE_NULL
 
 #ifdef __cplusplus
 }
