@@ -97,7 +97,7 @@ extern "C" {
     CODE(KETTLE_BAD_BLOCK, 31, "the block has not 87 bytes or a debug byte over 1, or the words have an odd length") \
     /* a step */ \
     CODE(KETTLE_FETCH_UNMAPPED, 2, "a byte of the instruction at PC is neither in memory nor in a device") \
-    CODE(KETTLE_ADDRESS_OVERFLOW, 3, "an address plus shift is over 65,535, or a word is at 65,535") \
+    CODE(KETTLE_ADDRESS_OVERFLOW, 3, "an address plus shift is over 65,535, or a word at 65,535 whose low byte is there") \
     CODE(KETTLE_BAD_OPCODE, 4, "no instruction has this number") \
     CODE(KETTLE_BAD_COMPARE, 5, "no comparison has this number") \
     CODE(KETTLE_BAD_ARITH, 6, "no arithmetic has this number") \
