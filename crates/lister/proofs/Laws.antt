@@ -43,7 +43,7 @@ decimal-length : (n : ℕ) → length (decimal n) ≤ 20
 unfolding decimal
 decimal-length n = digits-length 20 n
 
-told-length : (d : Told Instruction) → length (textOf d) ≤ 26
+pub told-length : (d : Told Instruction) → length (textOf d) ≤ 26
 told-length (is i) = text-length i
 told-length (no n) = zero-le
 

@@ -17,6 +17,7 @@ use Rattle.printer.specs.Print.{printed, printNext, printBuffer, wordNext, word
 use Rattle.printer.proofs.Laws.{text-length, next-fits, buffer-fits, placed-first, word-next, word-buffer, none-next}
 use Rattle.lister.specs.Listing.{textOf}
 use Rattle.lister.specs.Parts.{sizeOf}
+use Rattle.lister.proofs.Laws.{told-length}
 
 size : (p : Printed) (n : ℕ) → printed p ≡ is n → sizeOf p ≡ n
 size (Next k) n e = is-one k n e
@@ -26,12 +27,12 @@ module _ (i : Instruction) (buffer : List ℕ) (h : length buffer ≡ 32) where
   fits : 0 + length (text i) ≤ length buffer
   fits = omega (arith, text-length i)
 
-  pub text-size : (p : Printed) → printed p ≡ printNext i (length buffer) 0 → sizeOf p ≡ length (text i)
+  text-size : (p : Printed) → printed p ≡ printNext i (length buffer) 0 → sizeOf p ≡ length (text i)
   text-size p e =
       let z : 0 + length (text i) ≡ length (text i) = omega arith in
       size p (length (text i)) (e ∙ next-fits i 0 (length buffer) fits ∙ ap is z)
 
-  pub text-first : take (length (text i)) (printBuffer i buffer 0) ≡ text i
+  text-first : take (length (text i)) (printBuffer i buffer 0) ≡ text i
   text-first = rw (buffer-fits i 0 buffer fits) (placed-first (text i) buffer)
 
 -- what a word says, and nothing where it says no instruction
@@ -49,11 +50,7 @@ module _ (w n : ℕ) (p : Printed) (after : List ℕ) (k : n ≡ sizeOf p) (e : 
       go (no m) q = none p m (e ∙ sym (none-next w m q 32))
 
   pub word-room : n ≤ 32
-  word-room = rw word-size (go (decode w))
-    where
-      go : (d : Told Instruction) → length (textOf d) ≤ 32
-      go (is i) = omega (arith, text-length i)
-      go (no m) = omega arith
+  word-room = rw word-size (omega (arith, told-length (decode w)))
 
   pub word-first : take n after ≡ textOf (decode w)
   word-first = rw (word-size, f) (go (decode w) refl)
