@@ -38,7 +38,7 @@ COMPILE = $(CC) -std=c99 -Wall -Wextra -pedantic -Iinclude $(CFLAGS)
 STRICT = -Wconversion -Wshadow -Werror
 
 TESTS = count guard machines reference interpreter answers tables programs steps instructions \
-    journals walks texts limits listings prints helpers records wrappers damage lengths
+    journals walks texts limits meanings listings prints helpers records wrappers damage lengths
 EXAMPLES = $(patsubst examples/%.c,target/c/%,$(wildcard examples/*.c))
 
 .PHONY: all test test-papers test-entries test-headers test-install test-dist test-archive example examples dist clean always

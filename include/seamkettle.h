@@ -47,7 +47,7 @@ extern "C" {
 /* The header's version; kettle_version is the archive's. Where the two differ, the block may have another size, and then each
  * function that takes one answers KETTLE_BAD_BLOCK: ask at the start whether they are equal. */
 #define KETTLE_VERSION_MAJOR 0
-#define KETTLE_VERSION_MINOR 2
+#define KETTLE_VERSION_MINOR 3
 #define KETTLE_VERSION_PATCH 0
 #define KETTLE_VERSION (10000 * KETTLE_VERSION_MAJOR + 100 * KETTLE_VERSION_MINOR + KETTLE_VERSION_PATCH)
 
@@ -129,7 +129,8 @@ extern "C" {
     CODE(KETTLE_TOO_MANY_LABELS, 27, "a new name, and there are 1,024 labels") \
     CODE(KETTLE_TOO_MANY_FIXUPS, 28, "a label that is not defined yet, and 512 references wait for one") \
     CODE(KETTLE_PROGRAM_FULL, 29, "all words of the buffer, or 32,767, are used") \
-    CODE(KETTLE_FIELD_TOO_WIDE, 30, "strict: a number does not fit into its field, as a label past 2,047 in a jump")
+    CODE(KETTLE_FIELD_TOO_WIDE, 30, "strict: a number does not fit into its field, as a label past 2,047 in a jump") \
+    CODE(KETTLE_NOT_DECODABLE, 32, "strict: a CJP to a register; its word would mean JMP")
 
 #define KETTLE_NUMBER(name, number, text) name = number,
 #define KETTLE_NAME(name, number, text) case name: return #name;
@@ -318,13 +319,14 @@ static inline uint16_t kettle_record_register(const uint8_t *record, enum kettle
 /* The archive's version, as KETTLE_VERSION is the header's. */
 uint32_t kettle_version(void);
 
-/* Assembles a text: plainly for strict = 0, where a number that does not fit into its field is cut as the field is wide; strictly
- * for any other value, where it is refused. (CJP with a register is accepted both ways; the machine takes it for JMP.) Open
- * references are accepted both ways: a mistyped label is one, so look at kettle_open_references. Unused words are zero, and all of
- * them on a refusal but KETTLE_BAD_BLOCK.
+/* Assembles a text: plainly for strict = 0, where a number that does not fit into its field is cut as the field is wide, and the
+ * word of a CJP to a register means JMP to the machine; strictly for any other value, where the number is refused with 30, the CJP
+ * with 32, and nothing else that is accepted plainly. So each word of a text that is accepted strictly decodes to the instruction
+ * that its line says, labels resolved, but for open references: their word is 0. These are accepted both ways: a mistyped label is
+ * one, so look at kettle_open_references. Unused words are zero, and all of them on a refusal but KETTLE_BAD_BLOCK.
  * Counted: kettle_words, kettle_open_references, kettle_labels; of a refusal kettle_line.
- * KETTLE_BAD_BLOCK (odd words_len only), then 26 over the whole text, then line by line 20, 21, 22 or 24, then 30, 29, 28; of a
- * label 27, 30. */
+ * KETTLE_BAD_BLOCK (odd words_len only), then 26 over the whole text, then line by line 20, 21, 22 or 24, then 30, 32, 29, 28; of
+ * a label 27, 30. */
 KETTLE_LOOK KETTLE_IN(1) KETTLE_OUT(4)
 uint64_t kettle_assemble(const uint8_t *text, size_t text_len, uint8_t strict, uint8_t *words, size_t words_len);
 

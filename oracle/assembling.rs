@@ -34,13 +34,38 @@ fn number_of(error: &AsmError) -> String {
     })
 }
 
-/// Whether a field exceeds its width: then the word says something else than the instruction. (CJP by a register decodes to JMP,
-/// and has no field that could.)
-pub fn too_wide(instruction: &Instruction) -> bool {
-    if let Instruction::CondJmp(Some(_), _) = instruction {
-        return false;
+/// What strict assembly refuses an instruction with: 30 where a field exceeds its width, else 32 where the word does not decode
+/// back. What decodes back is the Rust's word, so no form is named for it. A field that exceeds does not: the Rust masks it.
+pub fn strict_refusal(instruction: &Instruction) -> Option<u8> {
+    let decodes_back = decodes_back(instruction);
+    if too_wide(instruction) {
+        assert!(!decodes_back, "a field exceeds its width and the Rust decodes it back");
+        return Some(30);
     }
-    decoded(encode_instruction(instruction)) != instruction.to_string()
+    if decodes_back { None } else { Some(32) }
+}
+
+/// Whether the Rust decodes what it has encoded to the very same instruction.
+fn decodes_back(instruction: &Instruction) -> bool {
+    Instruction::try_from(encode_instruction(instruction)).as_ref() == Ok(instruction)
+}
+
+/// Whether a field exceeds its width in 01's table.
+fn too_wide(instruction: &Instruction) -> bool {
+    match *instruction {
+        Instruction::Mov(_, _, Some(imm)) => exceeds(imm, 8),
+        Instruction::MovShift(_, amount, _, imm) => exceeds(amount.into(), 3) || exceeds(imm, 5),
+        Instruction::Arith(_, _, Some(imm), _) => exceeds(imm, 6),
+        Instruction::LdrStr(_, _, _, shift) | Instruction::LdbStb(_, _, _, shift) => exceeds(shift.into(), 5),
+        Instruction::CondJmp(_, Some(address)) | Instruction::Jmp(_, Some(address)) => exceeds(address, 11),
+        Instruction::Cmp(_, _, Some(imm), _) => exceeds(imm, 5),
+        Instruction::CallRet(_, address) => exceeds(address, 11),
+        _ => false,
+    }
+}
+
+fn exceeds(value: u16, bits: u32) -> bool {
+    value >> bits != 0
 }
 
 /// The text of an encoded word.
@@ -64,6 +89,8 @@ pub fn assembled(text: &[u8], rules: &Rules) -> Result<Program, Stopped> {
         }
         Ok(instructions) => {
             assert_eq!(stopped, None, "the walk refuses what the Rust accepts");
+            let back = !rules.strict || instructions.iter().all(decodes_back);
+            assert!(back, "a word of a text accepted strictly does not decode back");
             Ok(accepted(text, walk, instructions))
         }
     }

@@ -21,8 +21,8 @@ WALKS = ["moves", "journal-readings", "journal-limits"]
 # What is counted apart. Moves are counted in walks alone.
 COUNTED = {"steps": ["step"], "moves": MOVES, "step-backs": ["back"], "texts": ["asm", "asmn", "listing"], "lines": ["line"]}
 
-# 01's numbers.
-NUMBERS = range(1, 31)
+# The numbers that a command can answer: 01's, and 32 of 02. 31 is the block's, which no command has.
+NUMBERS = [*range(1, 31), 32]
 
 # What a step answers, and answers that are a word by themselves.
 WENT = ["continue", "debug", "stop"]

@@ -1,8 +1,8 @@
 //! A text read line by line, by document 01's words. What a line says is the Rust's word, by `parse_assembly_line`; which lines
-//! there are, where a label's name stands, and the limits that the Rust does not have (26, 27, 28, 29 for room, 30) are the
-//! driver's own.
+//! there are, where a label's name stands, and the refusals that the Rust does not have (26, 27, 28, 29 for room, 30, and 32 of
+//! 02's request 2) are the driver's own.
 use crate::answers::no;
-use crate::assembling::{line_answer, too_wide};
+use crate::assembling::{line_answer, strict_refusal};
 use std::collections::HashMap;
 
 /// How a text is assembled.
@@ -111,19 +111,22 @@ impl<'a> Walk<'a> {
         None
     }
 
+    /// Whether a reference exceeds its width, its label known. 32 does not come here: a reference that fits decodes back.
     fn is_too_wide(&self, line: &str) -> bool {
-        line_answer(line, &self.addresses).is_ok_and(|instruction| too_wide(&instruction))
+        let refusal = line_answer(line, &self.addresses).ok().as_ref().and_then(strict_refusal);
+        assert_ne!(refusal, Some(32), "a reference fits and does not decode back");
+        refusal == Some(30)
     }
 
-    /// Parsing, 30, 29, 28.
+    /// Parsing, 30, 32, 29, 28.
     fn instruction(&mut self, line: &Line<'a>, rules: &Rules) -> Option<Stopped> {
         let read = match line_answer(line.text, &self.addresses) {
             Ok(instruction) => Some(instruction),
             Err(said) if said == UNRESOLVED => None,
             Err(said) => return Some(Stopped { said, line: line.number, own: false }),
         };
-        if rules.strict && read.as_ref().is_some_and(too_wide) {
-            return own(30, line.number);
+        if let Some(number) = read.as_ref().filter(|_| rules.strict).and_then(strict_refusal) {
+            return own(number, line.number);
         }
         if self.code.len() == MOST_WORDS {
             return Some(Stopped { said: no(29), line: line.number, own: false });

@@ -17,10 +17,11 @@ def open_references(rng):
             yield asm(rules, count, 3, "".join(f"CALL x{i}\n" for i in range(count)))
             yield asm(rules, count + 2, 3, "JMP y\n" + "JMP x\n" * (count - 1) + "x:\n" + "JMP z\n" * 2)
             yield asm(rules, count + 512, 3, "CJP x\n" * (count - 1) + "x:\n" + "JMP z\n" * 512)
-        # 29 comes before 28, and a line that does not parse before both
+        # a line that does not parse comes first, then 32, 29, 28
         yield asm(rules, 512, 0, "JMP x\n" * 513)
         yield asm(rules, 513, 0, "JMP x\n" * 513)
         yield asm(rules, 512, 0, "JMP x\n" * 512 + "JMP x y")
+        yield from (asm(rules, room, 0, "JMP x\n" * 512 + "CJP A") for room in (512, 513))
         yield asm(rules, 600, 0, "JMP x\n" * 512 + "JMP A\nJMP #5\nDBG\nJMP y")
     yield listing("JMP x\n" * 512)
     yield listing("JMP x\n" * 513)
@@ -46,7 +47,9 @@ def word_rooms(rng):
             for count in range(7):
                 yield asm(rules, room, 1, "RET\n" * count)
             full = "RET\n" * room
-            for last in ("MOV A, #256", "JMP #2048", "LDR A, [B #32]", "MOV A", "JMP x", "x:", "x:\nx:\ny:", "; no word", "\x80"):
+            for last in ("MOV A, #256", "JMP #2048", "LDR A, [B #32]", "CJP A", "MOV A", "JMP x"):
+                yield asm(rules, room, 1, full + last)
+            for last in ("x:", "x:\nx:\ny:", "; no word", "\x80"):
                 yield asm(rules, room, 1, full + last)
 
 
@@ -69,7 +72,7 @@ def far_labels(rng):
 
 
 def full_programs(rng):
-    """32,767 words are the most, whatever the room; on a full program 30 comes before 29, and a label still has its address."""
+    """32,767 words are the most, in any room; on a full program 30 and 32 come before 29, and a label still has its address."""
     for rules in RULES:
         for count in (32_766, 32_767, 32_768):
             yield copies(rules, 32_800, 2, count, "DBG\n")
@@ -77,7 +80,7 @@ def full_programs(rng):
         for room in (32_766, 32_767, 32_768):
             yield copies(rules, room, 2, 32_767, "DBG\n", "x:\n")
             yield copies(rules, room, 2, 32_766, "DBG\n", "x:\nRET\ny:\n\n; nothing\nRET")
-        for last in ("x:\nJMP x", "MOV A, #256", "MOV A, X", "JMP x", "x:\ny:\n", "x:\ny:\nz:", "\xff"):
+        for last in ("x:\nJMP x", "MOV A, #256", "CJP A", "MOV A, X", "JMP x", "x:\ny:\n", "x:\ny:\nz:", "\xff"):
             yield copies(rules, 32_800, 2, 32_767, "DBG\n", last)
         yield copies(rules, 32_800, 1, 32_767, "RET\n", "x:\nx:\nRET")
         yield copies(rules, 32_800, 1, 32_766, "RET\n", "JMP x\nx:\nRET")

@@ -1,5 +1,5 @@
-"""The cases of 01 and of READINGS 13 to 20, as they stand there: as single lines and as texts."""
-from .assembly import asm, line, listing
+"""The cases of 01 and of READINGS 13 to 20, as they stand there, and those of 02's request 2: as single lines and as texts."""
+from .assembly import REGISTERS, asm, copies, line, listing
 
 EXAMPLE = "; poll\nagain:\nLDB A, B\nEQ A, #0\nCJP again\nMOV PC, C\n"
 
@@ -53,6 +53,20 @@ def once(rng):
     yield block([line("JMP x", "ax", [(1, 2, 5)]), line("JMP x", "ax", [(1, 2, 5), (1, 1, 7)])])
     yield block([line("JMP x", "\xff\xffx", [(2, 1, 9)]), line("JMP \xff", "\xff", [(0, 1, 9)])])
     yield block([asm("plain", 4, 3, text) for text in WHOLE] + [listing(text) for text in WHOLE])
+    yield from by_register()
+
+
+def by_register():
+    """CJP by a register: 32 where it is strict, and never on a single line."""
+    yield block([line(code, "Aa", [(0, 1, 2), (1, 1, 4)]) for code in BY_REGISTER])
+    texts = BY_REGISTER + REGISTER_OR_LABEL
+    for rules in ("plain", "strict"):
+        yield block([asm(rules, 4, 2, text) for text in texts])
+    yield block([listing(text) for text in texts])
+    for rules in ("plain", "strict"):
+        # with 512 references open a register is none, and `a` would be one more
+        full = [copies(rules, 513, 0, 512, "JMP x\n", last) for last in ("CJP A", "CJP a")]
+        yield block([asm(rules, *rooms, text) for rooms, text in LITTLE_ROOM] + full)
 
 
 # Labels before and after their references, again and never; and what comes first.
@@ -82,6 +96,48 @@ WHOLE = [
     "MOV A, #5\r\n\r\nRET\r",
     "MOV A, #5\rRET",
     "\n \n\t;\nMOVE",
+]
+
+# Registers are exact, mnemonics in either case.
+BY_REGISTER = [f"CJP {register}" for register in REGISTERS] + ["cjp A", "cJp FLAGS", "\tCJP\v A\r"]
+
+# A label of the register's name, before and after; names that are no register; lines that are no CJP; and which line is refused.
+REGISTER_OR_LABEL = [
+    "A:\nCJP A",
+    "CJP A\nA:",
+    "CJP a",
+    "CJP flags",
+    "a:\nCJP a",
+    "CJP a\na:\n",
+    "CJP A,\nA,:",
+    "CJP A:",
+    ";CJP A",
+    "JMP A\nCALL A\nA:",
+    "CJP #2047\nCJP #0",
+    "CJP A B",
+    "CJP A ; x",
+    "CJP A\nMOV",
+    "MOV\nCJP A",
+    "CJP A\nCJP #2048",
+    "CJP #2048\nCJP A",
+    "CJP A\n\xff",
+    "; poll\n\nagain:\nCJP A",
+    "; poll\nagain:\nLDB A, B\nEQ A, #0\nCJP C\nMOV PC, C\n",
+    "JMP x\nCJP SP\nx:\nMOV A, #256\n",
+    "x:\ny:\nCJP A\nz:\nDBG",
+]
+
+# 32 comes before 29 on a line; of two lines the first decides.
+LITTLE_ROOM = [
+    ((0, 0), "CJP A"),
+    ((0, 0), "CJP a"),
+    ((1, 0), "DBG\nCJP A"),
+    ((1, 0), "DBG\nDBG\nCJP A"),
+    ((1, 0), "CJP A\nDBG"),
+    ((1, 0), "CJP A\nx:"),
+    ((1, 0), "x:\nCJP A"),
+    ((1, 0), "DBG\nMOV A, #256\nCJP A"),
+    ((1, 0), "DBG\nCJP A\nMOV A, #256"),
 ]
 
 

@@ -1,7 +1,7 @@
 """Whole texts: generated programs, copies of them with a few bytes damaged, and single lines as texts. The rooms are mostly just
 enough."""
 from . import assembly
-from .assembly import NAMES, Writer, asm, listing
+from .assembly import NAMES, REGISTERS, Writer, asm, listing
 
 BLOCK = 40
 
@@ -30,8 +30,8 @@ def around(rng, count):
     return max(0, rng.choice([count] * 8 + [count + 1] * 3 + [count + rng.randrange(6), count - 1, count - 2, count // 2, 0]))
 
 
-def writer(rng):
-    names = rng.choice([assembly.GOOD_NAMES, assembly.GOOD_NAMES[:3], NAMES])
+def writer(rng, few=assembly.GOOD_NAMES[:3]):
+    names = rng.choice([assembly.GOOD_NAMES, few, NAMES])
     return Writer(rng, rng.choice([0, 0, 0, 0.02, 0.3]), rng.choice([0, 0, 0, 0.01, 0.05]), names)
 
 
@@ -45,6 +45,15 @@ def program(rng):
 def ended(rng, lines):
     end = rng.choice(["\n", "\n", "\n", "\r\n", "\n\n", " \n"])
     return end.join(lines) + rng.choice(["", end, end])
+
+
+def by_register(rng):
+    """A program with a CJP by a register in it, which strict assembly refuses. Its labels may be named as registers are."""
+    write = writer(rng, REGISTERS)
+    lines = [write.line() for _ in range(rng.choice([0, 1, 2, 3, 4, 5, 8, 12]))]
+    jump = write.spaced([write.cased("CJP"), rng.choice(REGISTERS)])
+    lines.insert(rng.randrange(len(lines) + 1), write.around(jump))
+    return ended(rng, lines)
 
 
 def one_line(rng):
@@ -116,5 +125,5 @@ def a_byte(rng):
 
 
 DAMAGES = [change, leave_out, put_in, swap, double]
-WAYS = [program, one_line, cut_short, references, damaged, far]
-WEIGHTS = [40, 12, 6, 18, 23.5, 0.5]
+WAYS = [program, by_register, one_line, cut_short, references, damaged, far]
+WEIGHTS = [34, 6, 12, 6, 18, 23.5, 0.5]

@@ -87,6 +87,7 @@ static void assemblies(void)
     counted("a:\n\n\n\x80\n", KETTLE_NOT_ASCII, 4, 0, 0, 0);
     counted("DBG\na:\nDBG\nDBG\n", KETTLE_PROGRAM_FULL, 4, 0, 0, 0);
     counted("a:\nMOV A, #256\n", KETTLE_FIELD_TOO_WIDE, 2, 0, 0, 0);
+    counted("a:\nJMP b\n\nCJP A\n", KETTLE_NOT_DECODABLE, 4, 0, 0, 0);
 
     /* of words that have an odd length nothing is counted, not even a line */
     struct bytes text = lend_text("DBG\nFOO\n"), odd = lend(3);
@@ -138,7 +139,7 @@ static const struct {
     ROW(KETTLE_BAD_REGISTER), ROW(KETTLE_NO_ROOM), ROW(KETTLE_INVALID_REGISTER), ROW(KETTLE_INVALID_OPERANDS),
     ROW(KETTLE_INVALID_INSTRUCTION), ROW(KETTLE_INVALID_FORMAT), ROW(KETTLE_INVALID_IMMEDIATE), ROW(KETTLE_UNRESOLVED_LABEL),
     ROW(KETTLE_NOT_ASCII), ROW(KETTLE_TOO_MANY_LABELS), ROW(KETTLE_TOO_MANY_FIXUPS), ROW(KETTLE_PROGRAM_FULL),
-    ROW(KETTLE_FIELD_TOO_WIDE), ROW(KETTLE_BAD_BLOCK), ROW(KETTLE_DEBUG), ROW(KETTLE_STOP)};
+    ROW(KETTLE_FIELD_TOO_WIDE), ROW(KETTLE_BAD_BLOCK), ROW(KETTLE_NOT_DECODABLE), ROW(KETTLE_DEBUG), ROW(KETTLE_STOP)};
 
 enum { CODES = sizeof codes / sizeof *codes };
 
@@ -146,8 +147,8 @@ static void numbers(void)
 {
     during("the paper's numbers", 0, 0, 0);
     for (unsigned i = 0; i < CODES; i++)
-        NUMBER(codes[i].number, i < 32 ? i : 256 + i - 32);
-    NUMBER(CODES, 34);
+        NUMBER(codes[i].number, i < 33 ? i : 256 + i - 33);
+    NUMBER(CODES, 35);
     static const unsigned registers[] = {KETTLE_A, KETTLE_B, KETTLE_C, KETTLE_M, KETTLE_SP, KETTLE_PC, KETTLE_BP, KETTLE_FLAGS};
     for (unsigned i = 0; i < 8; i++)
         NUMBER(registers[i], i);
@@ -177,7 +178,7 @@ static void names_and_texts(void)
         for (unsigned k = 0; k < i; k++)
             CHECK(strcmp(text, kettle_code_text(codes[k].number)) != 0);
     }
-    for (unsigned number = 32; number < 65536; number++)
+    for (unsigned number = 33; number < 65536; number++)
         if (number != 256 && number != 257)
             no_code(number);
     no_code(65536);

@@ -127,6 +127,7 @@ void test_journals(void);
 void test_walks(void);
 void test_texts(void);
 void test_limits(void);
+void test_meanings(void);
 void test_listings(void);
 void test_prints(void);
 void test_helpers(void);

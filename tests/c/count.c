@@ -82,6 +82,7 @@ int main(void)
     group("steps, runs and step-backs in any order", test_walks);
     group("texts: plain, strict, refusals and their lines", test_texts);
     group("texts: how many words, labels, open references", test_limits);
+    group("texts at random: each word says what its line says", test_meanings);
     group("listings", test_listings);
     group("the text of every word, against a second printer", test_prints);
     group("halted, failed, the rest protected; what hosts are told", test_helpers);

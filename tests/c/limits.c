@@ -89,13 +89,17 @@ static void open_references(void)
     give_back(&text);
     give_back(&program);
 
-    /* no room for a word comes before no room for a reference; a field too wide before both */
+    /* no room for a word comes before no room for a reference; a field too wide, or a CJP to a register, before both */
     program = lend(1024);
     text = lines("JMP x\n", 512, "JMP x\n");
     NUMBER(assemble(&text, 1, &program), at_line(KETTLE_PROGRAM_FULL, 513));
     give_back(&text);
     text = lines("JMP x\n", 512, "JMP #2048\n");
     NUMBER(assemble(&text, 1, &program), at_line(KETTLE_FIELD_TOO_WIDE, 513));
+    NUMBER(assemble(&text, 0, &program), at_line(KETTLE_PROGRAM_FULL, 513));
+    give_back(&text);
+    text = lines("JMP x\n", 512, "CJP A\n");
+    NUMBER(assemble(&text, 1, &program), at_line(KETTLE_NOT_DECODABLE, 513));
     NUMBER(assemble(&text, 0, &program), at_line(KETTLE_PROGRAM_FULL, 513));
     give_back(&text);
     give_back(&program);

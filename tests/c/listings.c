@@ -35,7 +35,10 @@ static void small_ones(void)
                "0000 0088 LDB A, B\n0002 0007 EQ A, #0\n0004 0005 CJP #0\n0006 02D1 MOV PC, C\nwords 4 open 0\n");
     listing_of("", "words 0 open 0\n");
     listing_of("DBG\nJMP x\nCALL y", "0000 0000 NOOP\n0002 0000 NOOP\n0004 0000 NOOP\nwords 3 open 2\n");
-    listing_of("CJP A\n", "0000 0015 JMP A\nwords 1 open 0\n");
+    listing_of("JMP A\n", "0000 0016 JMP A\nwords 1 open 0\n");
+    listing_of("CJP A\n", "refused 32 line 1\n");
+    listing_of("; A is a label too\nA:\nCALL A\n\nCJP A\nFOO\n", "refused 32 line 5\n");
+    listing_of("CJP A B\n", "refused 22 line 1\n");
     listing_of("DBG\nJMP #2048\n", "refused 30 line 2\n");
     listing_of("FOO\n", "refused 22 line 1\n");
     listing_of("DBG\n\n\xc3\xa9\n", "refused 26 line 3\n");

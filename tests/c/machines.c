@@ -253,7 +253,7 @@ void test_seen(void)
 {
     for (unsigned code = 0; code < 258; code++) {
         during("the code", (long)code, 0, 0);
-        bool reached = code <= KETTLE_BAD_BLOCK || code == KETTLE_DEBUG || code == KETTLE_STOP;
+        bool reached = code <= KETTLE_NOT_DECODABLE || code == KETTLE_DEBUG || code == KETTLE_STOP;
         if (code == KETTLE_INVALID_FORMAT || code == KETTLE_UNRESOLVED_LABEL)
             reached = false;
         CHECK(seen[code] == reached);

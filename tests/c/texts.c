@@ -1,4 +1,5 @@
 /* Texts: their words, plainly and strictly, and each refusal with its line. */
+#include <stdio.h>
 #include <string.h>
 
 #include "check.h"
@@ -39,7 +40,8 @@ static void words_of_lines(void)
 {
     word("MOV A, #5", 0x0501);
     word("JMP #2047", 0xffe6);
-    word("CJP A", 0x0015);
+    word("JMP A", 0x0016);
+    word("CJP #0", 0x0005);
     word("SQRTR A, B, C", 0x470a);
     word("STR A, [B #31]", 0xfc84);
     word("LDB A, B", 0x0088);
@@ -61,6 +63,86 @@ static void cut_or_refused(void)
         NUMBER(assembled("JMP #2048", strict, &words), at_line(KETTLE_FIELD_TOO_WIDE, 1));
     }
     give_back(&words);
+}
+
+/* ---- CJP to a register --------------------------------------------------------------------------------------------------- */
+
+static const char *const registers[] = {"A", "B", "C", "M", "SP", "PC", "BP", "FLAGS"};
+
+/* Plain assembly makes the word that means JMP, strict assembly refuses it, for each value that is not 0. */
+static void register_cjp(unsigned r)
+{
+    struct bytes words = lend(64);
+    char line[16];
+    snprintf(line, sizeof line, "CJP %s", registers[r]);
+    NUMBER(assembled(line, 0, &words), counts(1, 0, 0));
+    NUMBER(kettle_word(words.at), r << 5 | 0x15);
+    for (int strict = 1; strict < 256; strict++)
+        NUMBER(assembled(line, strict, &words), at_line(KETTLE_NOT_DECODABLE, 1));
+    give_back(&words);
+    snprintf(line, sizeof line, "JMP %s", registers[r]);
+    word(line, r << 5 | 0x16);
+}
+
+/* a text plainly and strictly, in room for so many words */
+static void both(const char *source, size_t room, uint64_t plainly, uint64_t strictly)
+{
+    struct bytes words = lend(2 * room);
+    NUMBER(assembled(source, 0, &words), plainly);
+    NUMBER(assembled(source, 1, &words), strictly);
+    give_back(&words);
+}
+
+/* refused with 32 in this line; plainly it is accepted */
+static void refused_cjp(const char *source, unsigned line, uint64_t plainly)
+{
+    both(source, 32, plainly, at_line(KETTLE_NOT_DECODABLE, line));
+}
+
+static void same_both_ways(const char *source, uint64_t answer)
+{
+    both(source, 32, answer, answer);
+}
+
+/* what is a CJP to a register, and in which line it is refused */
+static void lines_of_cjp(void)
+{
+    refused_cjp("cjp FLAGS", 1, counts(1, 0, 0));
+    refused_cjp("\t CjP\x0b BP \r\n", 1, counts(1, 0, 0));
+    refused_cjp("; x\n\nl:\nDBG\r\n  CJP SP\nCJP A\n", 5, counts(3, 0, 1));
+    refused_cjp("JMP x\nCJP y\nCJP PC\ny:", 3, counts(3, 1, 1));
+    /* a label of that name does not count, wherever it stands */
+    refused_cjp("A:\nCJP A\n", 2, counts(1, 0, 1));
+    refused_cjp("CJP A\nA:\n", 1, counts(1, 0, 1));
+    refused_cjp("A:\nCALL A\nJMP A\nCJP A\n", 4, counts(3, 0, 1));
+    /* any other CJP is accepted, and never refused in the line of its label */
+    same_both_ways("CJP a\na:\nCJP a", counts(2, 0, 1));
+    same_both_ways("CJP A,\nCJP [A]\nCJP FLAGSX\nCJP S", counts(4, 4, 0));
+    same_both_ways("CJP A:\n; CJP A", counts(0, 0, 1));
+    same_both_ways("CJP #2047\nJMP A\nEQ A, B\n", counts(3, 0, 0));
+}
+
+/* 32 comes after the parser's numbers and after 30, and before 29; in the text the first line counts, but 26 and 31 come first */
+static void order_of_cjp(void)
+{
+    same_both_ways("CJP", at_line(KETTLE_INVALID_INSTRUCTION, 1));
+    same_both_ways("CJP A B", at_line(KETTLE_INVALID_INSTRUCTION, 1));
+    same_both_ways("CJP A ; x", at_line(KETTLE_INVALID_INSTRUCTION, 1));
+    same_both_ways("CJP #A", at_line(KETTLE_INVALID_IMMEDIATE, 1));
+    same_both_ways("CJP #65536", at_line(KETTLE_INVALID_IMMEDIATE, 1));
+    both("CJP #2048", 32, counts(1, 0, 0), at_line(KETTLE_FIELD_TOO_WIDE, 1));
+    both("MOV A, #256\nCJP A", 32, counts(2, 0, 0), at_line(KETTLE_FIELD_TOO_WIDE, 1));
+    both("CJP A\nMOV A, #256", 32, counts(2, 0, 0), at_line(KETTLE_NOT_DECODABLE, 1));
+    both("CJP A\nMOV Q, #1", 32, at_line(KETTLE_INVALID_REGISTER, 2), at_line(KETTLE_NOT_DECODABLE, 1));
+    same_both_ways("MOV Q, #1\nCJP A", at_line(KETTLE_INVALID_REGISTER, 1));
+    both("CJP A", 0, at_line(KETTLE_PROGRAM_FULL, 1), at_line(KETTLE_NOT_DECODABLE, 1));
+    both("DBG\n\nCJP A", 1, at_line(KETTLE_PROGRAM_FULL, 3), at_line(KETTLE_NOT_DECODABLE, 3));
+    both("DBG\nDBG\nCJP A", 1, at_line(KETTLE_PROGRAM_FULL, 2), at_line(KETTLE_PROGRAM_FULL, 2));
+    same_both_ways("CJP A\n\n\x80", at_line(KETTLE_NOT_ASCII, 3));
+    struct bytes text = lend_text("CJP A"), odd = lend(3);
+    NUMBER(assemble(&text, 1, &odd), KETTLE_BAD_BLOCK);
+    give_back(&text);
+    give_back(&odd);
 }
 
 static void labels(void)
@@ -139,6 +221,12 @@ static void incident(void)
         NUMBER(assemble(&text, 0, &words), counts(fill + 1, 0, 1));
         NUMBER(kettle_word(words.at), (far & 2047) << 5 | 6);
         NUMBER(assemble(&text, 1, &words), far <= 2047 ? counts(fill + 1, 0, 1) : at_line(KETTLE_FIELD_TOO_WIDE, fill + 2));
+        /* the same of CJP to a label; to a register it is refused at its own line */
+        memcpy(p, "CJP end\n", 8);
+        NUMBER(assemble(&text, 1, &words), far <= 2047 ? counts(fill + 1, 0, 1) : at_line(KETTLE_FIELD_TOO_WIDE, fill + 2));
+        memcpy(p, "CJP FLAGS\n\n\n", 12);
+        NUMBER(assemble(&text, 1, &words), at_line(KETTLE_NOT_DECODABLE, 1));
+        memcpy(p + 8, "DBG\n", 4);
         /* a reference to a label known to be too far is refused at its own line */
         memcpy(p, "DBG    \n", 8);
         struct bytes again = lend(len + 8);
@@ -181,6 +269,10 @@ void test_texts(void)
 {
     words_of_lines();
     cut_or_refused();
+    for (unsigned r = 0; r < 8; r++)
+        register_cjp(r);
+    lines_of_cjp();
+    order_of_cjp();
     labels();
     refusals();
     incident();

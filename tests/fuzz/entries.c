@@ -85,7 +85,7 @@ static void larger(uint64_t *most, uint64_t n)
 static uint64_t answered(enum entry e, uint64_t answer)
 {
     unsigned code = kettle_code_of(answer);
-    DEMAND(code <= KETTLE_BAD_BLOCK || code == KETTLE_DEBUG || code == KETTLE_STOP);
+    DEMAND(code <= KETTLE_NOT_DECODABLE || code == KETTLE_DEBUG || code == KETTLE_STOP);
     DEMAND(fenced(&block) && fenced(&memory) && fenced(&devices) && fenced(&journal));
     DEMAND(fenced(&words) && fenced(&text) && fenced(&out) && fenced(&buffer));
     calls[e]++;
@@ -328,6 +328,18 @@ static uint64_t lines_in(const uint8_t *bytes, size_t len)
     return n;
 }
 
+/* A CJP to a register is refused with 32, strictly and in its own line, and nothing else is; unless an earlier line is refused,
+ * or 26 or 31 came before every line. */
+static void cjp_refused(uint8_t strict, uint64_t answer)
+{
+    uint64_t at = strict ? register_cjp_line(text.at, text.len) : 0;
+    unsigned code = kettle_code_of(answer);
+    if (code == KETTLE_NOT_DECODABLE)
+        DEMAND(at && kettle_line(answer) == at);
+    else if (at)
+        DEMAND(code == KETTLE_NOT_ASCII || (code && kettle_line(answer) < at));
+}
+
 /* The text into words_len bytes, and what can be said of one answer alone. */
 static uint64_t assembled(uint8_t strict, size_t words_len)
 {
@@ -335,6 +347,7 @@ static uint64_t assembled(uint8_t strict, size_t words_len)
     memset(words.at, FRESH_BYTE, words_len);
     uint64_t answer = answered(ASSEMBLE, kettle_assemble(BYTES(text), strict, BYTES(words)));
     unsigned code = kettle_code_of(answer);
+    cjp_refused(strict, answer);
     if (words_len % 2) {
         DEMAND(answer == KETTLE_BAD_BLOCK && all(words.at, words_len, FRESH_BYTE));
     } else if (code == 0) {
@@ -347,8 +360,8 @@ static uint64_t assembled(uint8_t strict, size_t words_len)
         reached(700, magnitude(kettle_words(answer)), magnitude(kettle_open_references(answer)), magnitude(kettle_labels(answer)));
     } else {
         DEMAND((code >= KETTLE_INVALID_REGISTER && code <= KETTLE_INVALID_INSTRUCTION) || code == KETTLE_INVALID_IMMEDIATE
-               || (code >= KETTLE_NOT_ASCII && code <= KETTLE_FIELD_TOO_WIDE));
-        DEMAND(strict || code != KETTLE_FIELD_TOO_WIDE);
+               || (code >= KETTLE_NOT_ASCII && code <= KETTLE_FIELD_TOO_WIDE) || code == KETTLE_NOT_DECODABLE);
+        DEMAND(strict || (code != KETTLE_FIELD_TOO_WIDE && code != KETTLE_NOT_DECODABLE));
         DEMAND(kettle_line(answer) >= 1 && kettle_line(answer) <= lines_in(text.at, text.len));
         DEMAND(all(words.at, words_len, 0));
         reached(701, code, magnitude(kettle_line(answer)), strict != 0);
@@ -466,11 +479,13 @@ static uint64_t do_assemble(uint8_t strict, size_t words_len)
         DEMAND(assembled(1, words_len) == strictly && !memcmp(words.at, kept, words_len));
     uint64_t plainly = assembled(0, words_len);
     larger(&longest_text, text.len);
-    if (kettle_code_of(strictly) != KETTLE_FIELD_TOO_WIDE) {
+    if (kettle_code_of(strictly) != KETTLE_FIELD_TOO_WIDE && kettle_code_of(strictly) != KETTLE_NOT_DECODABLE) {
         DEMAND(plainly == strictly && !memcmp(words.at, kept, words_len));
     } else {
-        /* plainly it is refused no earlier */
+        /* plainly it is refused no earlier; and a CJP to a register, in its line, only where there is no room */
         DEMAND(kettle_code_of(plainly) == 0 || kettle_line(plainly) >= kettle_line(strictly));
+        DEMAND(kettle_code_of(strictly) != KETTLE_NOT_DECODABLE || kettle_line(plainly) != kettle_line(strictly)
+               || kettle_code_of(plainly) == KETTLE_PROGRAM_FULL);
     }
     return plainly;
 }

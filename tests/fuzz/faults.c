@@ -34,6 +34,8 @@ uint64_t __wrap_kettle_assemble(const uint8_t *t, size_t tl, uint8_t strict, uin
         a -= (uint64_t)1 << 32 & (strict ? ~(uint64_t)0 : 0); /* one open reference fewer, strictly */
     if (FAULT == 4 && tl && ((const volatile uint8_t *)t)[tl] == 'x')
         a ^= 1; /* the byte after the text is read */
+    if (FAULT == 24 && kettle_code_of(a) == KETTLE_NOT_DECODABLE)
+        a = __real_kettle_assemble(t, tl, 0, w, wl); /* a CJP to a register is let through, strictly */
     return a;
 }
 

@@ -1,7 +1,7 @@
 /*
- * rules.h: the machine's rules over whole states, written from its description and from the Rust, the step with our source in sight:
- * when a state is valid, where a byte is, what a step does, what each entry answers and leaves. The harness holds the library
- * beside them.
+ * rules.h: the machine's rules over whole states, written from its description and from the Rust: when a state is valid, where a
+ * byte is, what a step does, what each entry answers and leaves; and which line of a text is a CJP to a register. The step and that
+ * line were written with our source in sight. The harness holds the library beside them.
  */
 #ifndef RULES_H
 #define RULES_H
@@ -130,6 +130,60 @@ static void empty_journal(struct whole *w)
 {
     put_word(w->block + KETTLE_BLOCK_NEXT, 0);
     put_word(w->block + KETTLE_BLOCK_HELD, 0);
+}
+
+/* ---- which lines of a text strict assembly refuses with 32 ----------------------------------------------------------------- */
+
+static int is_blank(uint8_t byte)
+{
+    return byte == 32 || (byte >= 9 && byte <= 13);
+}
+
+/* the next token of a line, from *at on: its length, and *at is where it begins */
+static size_t token(const uint8_t *line, size_t len, size_t *at)
+{
+    size_t end;
+    while (*at < len && is_blank(line[*at]))
+        ++*at;
+    for (end = *at; end < len && !is_blank(line[end]);)
+        end++;
+    return end - *at;
+}
+
+static int is_register(const uint8_t *name, size_t len)
+{
+    static const char *const names[8] = {"A", "B", "C", "M", "SP", "PC", "BP", "FLAGS"};
+    for (unsigned i = 0; i < 8; i++)
+        if (len == strlen(names[i]) && !memcmp(name, names[i], len))
+            return 1;
+    return 0;
+}
+
+/* CJP in either case, a register, and nothing after it. (With a final colon it would be no register.) */
+static int is_register_cjp(const uint8_t *line, size_t len)
+{
+    size_t at = 0, n = token(line, len, &at);
+    if (n != 3 || (line[at] | 32) != 'c' || (line[at + 1] | 32) != 'j' || (line[at + 2] | 32) != 'p')
+        return 0;
+    at += n;
+    n = token(line, len, &at);
+    if (!is_register(line + at, n))
+        return 0;
+    at += n;
+    return token(line, len, &at) == 0;
+}
+
+/* the first such line of a text, from 1; 0 for none */
+static uint64_t register_cjp_line(const uint8_t *text, size_t len)
+{
+    uint64_t line = 1;
+    for (size_t from = 0, to; from < len; from = to + 1, line++) {
+        for (to = from; to < len && text[to] != 10;)
+            to++;
+        if (is_register_cjp(text + from, to - from))
+            return line;
+    }
+    return 0;
 }
 
 /* ---- what an entry answers, and what it leaves in w ------------------------------------------------------------------------ */

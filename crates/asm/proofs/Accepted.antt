@@ -6,15 +6,17 @@ use mathlib.Core.Bool.{Bool, true, false, _&&_}
 use mathlib.Core.List.{List, [], _∷_, _++_}
 use lib.Dec.{ltb}
 use lib.ListN.{length}
+use borrow.Author.Tests.{not-false}
 use Rattle.base.specs.Choice.{cond}
 use Rattle.base.specs.Told.{Told, is, no, _>>=_}
 use Rattle.base.proofs.ToldLaws.{is-not-no, is-one}
+use Rattle.base.proofs.OrderLaws.{passed-value}
 use Rattle.instruction.specs.declared.Instruction.{Instruction}
 use Rattle.instruction.specs.Encode.{encode}
-use Rattle.instruction.specs.Fits.{fits}
+use Rattle.instruction.specs.Fits.{fits, decodable}
 use Rattle.labels.specs.declared.Label.{Label}
 use Rattle.labels.specs.declared.Open.{Open}
-use Rattle.asm.specs.Words.{strictWord, wordOf, addWord, addInstruction}
+use Rattle.asm.specs.Words.{strictOrder, strictWord, wordOf, addWord, addInstruction}
 use Rattle.asm.specs.Labels.{part, define, addOpen, Patched, patch}
 use Rattle.asm.specs.Work.{Task, Work, withWords, says, opens, labelsAt}
 
@@ -37,7 +39,7 @@ chosen false a b n e = is-not-no b n (sym e)
 
 word-is : (strict : Bool) (i : Instruction) (w : ℕ) → wordOf strict i ≡ is w → w ≡ encode i
 unfolding wordOf strictWord
-word-is true i w e = chosen (fits i) (encode i) w 30 e
+word-is true i w e = passed-value (strictOrder i) (encode i) w e .1
 word-is false i w e = sym (is-one (encode i) w e)
 
 -- the instruction has a word by the rule: it is the encoder's
@@ -49,13 +51,12 @@ allowed strict i w e =
     let h = word-is strict i w e in
     (h, e ∙ ap is h)
 
-pub allowed-fits : (i : Instruction) → Allowed true i → fits i ≡ true
-unfolding wordOf strictWord
-allowed-fits i e = go (fits i) e
-  where
-    go : (t : Bool) → cond t (is (encode i)) (no 30) ≡ is (encode i) → t ≡ true
-    go true q = refl
-    go false q = is-not-no (encode i) 30 (sym q)
+-- strict: it passed 30 and 32
+pub allowed-said : (i : Instruction) → Allowed true i → (fits i ≡ true) × (decodable i ≡ true)
+unfolding wordOf strictWord strictOrder
+allowed-said i e =
+    let p = passed-value (strictOrder i) (encode i) (encode i) e .0 in
+    (not-false (fits i) (p .0), not-false (decodable i) (p .1 .0))
 
 word-added : (room w : ℕ) (words new : List ℕ) → addWord room w words ≡ is new → new ≡ words ++ w ∷ []
 unfolding addWord

@@ -14,7 +14,9 @@ pub mod Tables
 pub mod Slots
 pub mod Patches
 pub mod Meanings
-pub mod Decoding
 pub mod Sound
 pub mod Rooms
 pub mod MarkedLaw
+pub mod Refusals
+pub mod Refused
+pub mod Plain

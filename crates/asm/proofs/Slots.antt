@@ -11,6 +11,7 @@ use Rattle.base.specs.Choice.{cond}
 use Rattle.base.specs.Told.{Told, is}
 use Rattle.base.specs.Words.{doubled}
 use Rattle.instruction.specs.declared.Instruction.{Instruction}
+use Rattle.instruction.proofs.RoundTrip.{round-trip}
 use Rattle.parser.specs.declared.Reference.{Reference}
 use Rattle.parser.specs.References.{resolved}
 use Rattle.labels.specs.declared.Open.{Open}
@@ -18,8 +19,9 @@ use Rattle.labels.specs.Labels.{names}
 use Rattle.labels.specs.Opens.{openTo}
 use Rattle.asm.specs.Labels.{part}
 use Rattle.asm.specs.Reading.{Item, label}
-use Rattle.asm.specs.Meaning.{Meant, instruction, never, refer, later, wordOf, allFit, nevers}
-use Rattle.asm.proofs.Accepted.{Allowed, allowed-fits}
+use Rattle.asm.specs.Meaning.{Meant, instruction, never, refer, later, wordOf, nevers}
+use Rattle.asm.specs.Strict.{AllSay}
+use Rattle.asm.proofs.Accepted.{Allowed, allowed-said}
 use Rattle.asm.proofs.Tables.{names-swap}
 
 pub data Slot : Type 0 where
@@ -130,7 +132,10 @@ open-nevers i [] = refl
 open-nevers i (done j ∷ slots) = open-nevers (suc i) slots
 open-nevers i (waits r place size ∷ slots) = ap suc (open-nevers (suc i) slots)
 
-pub slots-fit : (n : ℕ) (slots : List Slot) → AllGood true n slots → allFit (map asMeant slots) ≡ true
-slots-fit n [] g = refl
-slots-fit n (done i ∷ slots) g = rw (allowed-fits i (g .0)) (slots-fit n slots (g .1))
-slots-fit n (waits r place size ∷ slots) g = slots-fit n slots (g .1)
+-- strict: what each says comes back from its word, by the round trip
+pub slots-say : (n : ℕ) (slots : List Slot) → AllGood true n slots → AllSay (map asMeant slots) (map slotWord slots)
+slots-say n [] g = tt
+slots-say n (done i ∷ slots) g =
+    let h = allowed-said i (g .0) in
+    (round-trip i (h .0) (h .1), slots-say n slots (g .1))
+slots-say n (waits r place size ∷ slots) g = (refl, slots-say n slots (g .1))

@@ -1,19 +1,23 @@
 -- Assembling is sound: an accepted text's words, open references and labels are those of what the text means
--- (specs/Meaning.antt); and in strict assembly each word decodes to the very instruction that its line says, a CJP to a register apart. Assumes nothing.
+-- (specs/Meaning.antt); and in strict assembly each word decodes to the very instruction that its line says (specs/Strict.antt). Each
+-- is read off what the lines have come to at the end. Assumes nothing.
 use Prim.Native.Nat.{ℕ}
-use mathlib.Core.Path.{_≡_, sym, ap, subst, _∙_}
-use mathlib.Core.Bool.{Bool, true}
-use mathlib.Core.List.{List, map, map-map}
+use mathlib.Core.Path.{_≡_, refl, sym, ap, subst, _∙_}
+use mathlib.Core.Bool.{true}
+use mathlib.Core.List.{List, [], _∷_, map, map-map}
+use native.Mathlib.Omega.{arith}
 use lib.ListN.{length}
+use Rattle.base.specs.Told.{is}
+use Rattle.instruction.specs.declared.Instruction.{Instruction}
 use Rattle.instruction.specs.Decode.{decode}
 use Rattle.labels.specs.Labels.{find}
-use Rattle.asm.specs.Work.{Task, Work}
+use Rattle.asm.specs.Work.{Task, task, Work}
 use Rattle.asm.specs.Assemble.{accepted, assemble}
-use Rattle.asm.specs.Meaning.{latest, meaning, definitions, leadsTo, wordOf, decoded, allFit, nevers}
+use Rattle.asm.specs.Meaning.{Meant, instruction, never, latest, meaning, definitions, leadsTo, wordOf, nevers}
+use Rattle.asm.specs.Strict.{AllSay, StrictMeans}
 use Rattle.asm.proofs.Tables.{found-latest}
-use Rattle.asm.proofs.Slots.{asMeant, AllGood, open-nevers, slots-fit}
+use Rattle.asm.proofs.Slots.{asMeant, open-nevers, slots-say}
 use Rattle.asm.proofs.Meanings.{ended}
-use Rattle.asm.proofs.Decoding.{all-decode}
 
 -- the words are those of what the text means: each label at the address that its line stands for, 0 where it never comes
 pub words-meant : (t : Task) (w : Work) → assemble t ≡ accepted w → w .words ≡ map wordOf (meaning (t .text))
@@ -27,17 +31,36 @@ open-meant t w e =
     let r = ended t w e in
     ap length (r .holds .waiting) ∙ open-nevers 0 (r .slots) ∙ ap nevers (r .means)
 
--- strict: each instruction fits its word
-pub strict-fits : (t : Task) (w : Work) → t .strict ≡ true → assemble t ≡ accepted w → allFit (meaning (t .text)) ≡ true
-strict-fits t w strict e =
+pub strict-sound : StrictMeans
+strict-sound text wordRoom labelRoom w e =
+    let t = task true text wordRoom labelRoom in
     let r = ended t w e in
-    let n = length (t .text) in
-    sym (ap allFit (r .means)) ∙ slots-fit n (r .slots) (subst (λ (b : Bool). AllGood b n (r .slots)) strict (r .holds .good))
+    let said = slots-say (length text) (r .slots) (r .holds .good) in
+    record {
+      says =
+          subst (λ (ms : List Meant). AllSay ms (w .words)) (r .means)
+          (subst (AllSay (map asMeant (r .slots))) (sym (r .holds .words)) said);
+      counts = open-meant t w e;
+    }
 
--- strict: each word decodes to the instruction that its line says, labels resolved; a CondJmp to a register decodes to Jmp,
--- and the 0 of a label that never comes to Noop
-pub strict-sound : (t : Task) (w : Work) → t .strict ≡ true → assemble t ≡ accepted w → map decode (w .words) ≡ map decoded (meaning (t .text))
-strict-sound t w strict e = ap (map decode) (words-meant t w e) ∙ all-decode (meaning (t .text)) (strict-fits t w strict e)
+-- where no reference stayed open, nothing is left: the lines say instructions, and the words decode to them
+pub record Decoded (ms : List Meant) (words : List ℕ) : Type 0 where
+  pub instructions : List Instruction
+  pub meant : ms ≡ map instruction instructions
+  pub decodes : map decode words ≡ map is instructions
+
+pub none-open : (ms : List Meant) (words : List ℕ) → AllSay ms words → nevers ms ≡ 0 → Decoded ms words
+none-open [] [] a h = record { instructions = []; meant = refl; decodes = refl }
+none-open [] (w ∷ words) a h = absurd a
+none-open (m ∷ ms) [] a h = absurd a
+none-open (instruction i ∷ ms) (w ∷ words) a h =
+    let r = none-open ms words (a .1) h in
+    record {
+      instructions = i ∷ r .instructions;
+      meant = ap (λ (xs : List Meant). instruction i ∷ xs) (r .meant);
+      decodes = rw (a .0, r .decodes);
+    }
+none-open (never ∷ ms) (w ∷ words) a h = absurd (omega (arith, h))
 
 -- the label table leads each name to the latest of its definitions in the text, and a name without one to nothing
 pub labels-latest : (t : Task) (w : Work) → assemble t ≡ accepted w → (name : List ℕ) →

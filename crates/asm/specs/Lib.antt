@@ -5,4 +5,5 @@ pub mod Work
 pub mod Views
 pub mod Assemble
 pub mod Meaning
+pub mod Strict
 pub mod Marked

@@ -1,17 +1,13 @@
 -- What a text means, said without words and without patching: the instruction of each of its lines, labels resolved.
--- proofs/Sound.antt holds assembling to it.
+-- proofs/Sound.antt holds assembling to it, Strict.antt has what strict assembly promises of it.
 use Prim.Native.Nat.{ℕ, suc, _+_}
 use mathlib.Core.List.{List, [], _∷_}
-use mathlib.Core.Bool.{Bool, true, _&&_}
 use lib.ListN.{length}
 use Rattle.base.specs.Choice.{cond}
 use Rattle.base.specs.Told.{Told, is, no}
 use Rattle.base.specs.Words.{doubled}
 use Rattle.instruction.specs.declared.Instruction.{Instruction}
-use Rattle.instruction.specs.declared.Instruction.the-variants as Instruction
-use Rattle.instruction.specs.declared.Operand.the-variants.{Reg, Imm}
 use Rattle.instruction.specs.Encode.{encode}
-use Rattle.instruction.specs.Fits.{fits}
 use Rattle.text.specs.Lines.{lines}
 use Rattle.parser.specs.declared.Reference.{Reference}
 use Rattle.parser.specs.References.{resolved}
@@ -79,32 +75,6 @@ meaning text = meant text [] 0 (itemsFrom 0 (lines text))
 abbrev pub wordOf : Meant → ℕ
 wordOf (instruction i) = encode i
 wordOf never = 0
-
--- what its word decodes to. Register-mode CondJmp decodes to Jmp, and 0 to Noop; any other instruction is its own.
-abbrev pub asDecoded : Instruction → Instruction
-asDecoded Instruction.Noop = Instruction.Noop
-asDecoded (Instruction.Mov d o) = Instruction.Mov d o
-asDecoded (Instruction.MovShift r amount left v) = Instruction.MovShift r amount left v
-asDecoded (Instruction.Arith d o k) = Instruction.Arith d o k
-asDecoded (Instruction.ArithRegReg d a b k) = Instruction.ArithRegReg d a b k
-asDecoded (Instruction.LdrStr r a store shift) = Instruction.LdrStr r a store shift
-asDecoded (Instruction.LdbStb r a store shift) = Instruction.LdbStb r a store shift
-asDecoded (Instruction.Cpy s d) = Instruction.Cpy s d
-asDecoded (Instruction.Jmp o) = Instruction.Jmp o
-asDecoded (Instruction.CondJmp (Reg r)) = Instruction.Jmp (Reg r)
-asDecoded (Instruction.CondJmp (Imm v)) = Instruction.CondJmp (Imm v)
-asDecoded (Instruction.Cmp r o k) = Instruction.Cmp r o k
-asDecoded (Instruction.CallRet ret address) = Instruction.CallRet ret address
-
-abbrev pub decoded : Meant → Told Instruction
-decoded (instruction i) = is (asDecoded i)
-decoded never = is Instruction.Noop
-
--- does each instruction fit its word?
-abbrev pub allFit : List Meant → Bool
-allFit [] = true
-allFit (instruction i ∷ ms) = fits i && allFit ms
-allFit (never ∷ ms) = allFit ms
 
 -- how many lines refer to a label that is never defined
 abbrev pub nevers : List Meant → ℕ

@@ -4,6 +4,7 @@ ghost use Rattle.asm.specs.Words.{toldWord, strictWord, wordOf};
 use crate::Rules;
 use base::Refusal;
 use instruction::Instruction;
+use instruction::decodable;
 use instruction::encode;
 use instruction::fits;
 
@@ -15,11 +16,13 @@ pub enum Word {
 fn strict_word(i: Instruction) -> Word
     ensures { λ r. ⌜ toldWord r ≡ strictWord i ⌝ }
 {
-    if fits(i) {
-        Word::Is(encode(i))
-    } else {
-        Word::Refused(Refusal::FieldTooWide)
+    if !fits(i) {
+        return Word::Refused(Refusal::FieldTooWide);
     }
+    if !decodable(i) {
+        return Word::Refused(Refusal::NotDecodable);
+    }
+    Word::Is(encode(i))
 }
 
 pub fn word_of(rules: Rules, i: Instruction) -> Word

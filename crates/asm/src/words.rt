@@ -42,7 +42,7 @@ pub fn add_word(words: &mut [u16], at: InstructionIndex, w: u16) -> Added
     Added::Refused(Refusal::ProgramFull)
 }
 
-// The word of an instruction more: 30, then 29.
+// The word of an instruction more: 30, 32, then 29.
 pub fn add_instruction(
     rules: Rules,
     words: &mut [u16],

@@ -5,7 +5,7 @@ use mathlib.Core.Bool.{Bool, true, false}
 use Prim.Native.Nat.{ℕ, _≤_}
 use native.Mathlib.Omega.{arith}
 use Rattle.base.specs.Choice.{cond}
-use Rattle.base.specs.Told.{Told, is, no}
+use Rattle.base.specs.Told.{Told, is, no, _>>=_}
 
 module _ {A : Type 0} where
   pub is-not-no : {B : Type 0} (a : A) (n : ℕ) → _≡_ {A = Told A} (is a) (no n) → B
@@ -38,3 +38,14 @@ module _ {A : Type 0} (t : Bool) (a : A) (n low high : ℕ) (h : (low ≤ n) × 
       go : (u : Bool) → Numbered low high (cond u (no n) (is a))
       go true = h
       go false = tt
+
+module _ (low high : ℕ) where
+  -- one after the other
+  pub then-numbered : {A B : Type 0} (x : Told A) (f : A → Told B) → Numbered low high x → ((a : A) → Numbered low high (f a)) → Numbered low high (x >>= f)
+  then-numbered (is a) f p q = q a
+  then-numbered (no n) f p q = p
+
+  -- the number of what is refused
+  pub its-number : {A : Type 0} (x : Told A) (n : ℕ) → Numbered low high x → x ≡ no n → (low ≤ n) × (n ≤ high)
+  its-number (is a) n p e = is-not-no a n e
+  its-number (no k) n p e = let q = no-one k n e in (omega (arith, p .0, q), omega (arith, p .1, q))

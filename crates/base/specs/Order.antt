@@ -3,6 +3,7 @@ use Prim.Native.Nat.{ℕ}
 use mathlib.Core.Bool.{Bool}
 use mathlib.Core.List.{List, [], _∷_}
 use Rattle.base.specs.Choice.{cond}
+use Rattle.base.specs.Told.{Told, is, no}
 
 -- a number, and the case in which it is given
 pub data Refusing : Type 0 where
@@ -16,3 +17,8 @@ n when given = refusing n given
 abbrev pub firstOf : List Refusing → ℕ
 firstOf [] = 0
 firstOf (refusing n given ∷ rest) = cond given n (firstOf rest)
+
+-- the value, where no number of the order is given
+abbrev pub passing : {A : Type 0} → List Refusing → A → Told A
+passing [] a = is a
+passing (refusing n given ∷ rest) a = cond given (no n) (passing rest a)

@@ -34,6 +34,7 @@ pub enum Refusal {
     ProgramFull,
     FieldTooWide,
     BadBlock,
+    NotDecodable,
 }
 
 // What an entry that hands back nothing but its verdict answers.
@@ -78,5 +79,6 @@ pub fn number(r: Refusal) -> u8
         Refusal::ProgramFull => 29,
         Refusal::FieldTooWide => 30,
         Refusal::BadBlock => 31,
+        Refusal::NotDecodable => 32,
     }
 }

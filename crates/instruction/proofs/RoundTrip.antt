@@ -1,7 +1,7 @@
--- Every instruction whose fields fit decodes back from its word, register-mode CondJmp apart: the word is a sum of fields
--- that do not meet, so that each field comes back by the one law of packing. Assumes nothing.
+-- Every instruction whose fields fit decodes back from its word, register-mode CondJmp apart, which never does: the word is a sum
+-- of fields that do not meet, so that each field comes back by the one law of packing. Assumes nothing.
 use Prim.Native.Nat.{ℕ, _+_, _*_, _%_, _^_, _<_, _≤_}
-use mathlib.Core.Path.{_≡_, refl, ap, _∙_}
+use mathlib.Core.Path.{_≡_, refl, sym, ap, subst, _∙_}
 use mathlib.Core.Bool.{Bool, true, false}
 use native.Mathlib.Omega.{arith}
 use native.Mathlib.Nat.{mod-eq-of-lt, lt-of-lt-of-le}
@@ -10,6 +10,7 @@ use lib.Dec.{eqb}
 use borrow.Author.Tests.{ltb-true, lt-ltb}
 use Rattle.base.proofs.Tests.{clash, both}
 use Rattle.base.specs.Told.{is}
+use Rattle.base.proofs.ToldLaws.{is-one}
 use Rattle.fields.specs.Fields.{fieldOf, placeOf}
 use Rattle.fields.proofs.Laws.{unpacked}
 use Rattle.instruction.specs.declared.Register.{Register}
@@ -135,6 +136,10 @@ register-cjp r =
     let op : fieldOf w 0 4 ≡ 5 = unpacked w 0 4 0 5 (mode (Reg r) % 2 + value (Reg r) % 2048 * 2) (omega arith) (omega arith) (omega arith) in
     low-bits w 5 op ∙ rw (operand-back 4 11 5 (Reg r) (omega arith) (omega arith) refl)
 
+-- and Jmp is another instruction
+not-both : {r : Register} → Jmp (Reg r) ≡ CondJmp (Reg r) → ⊥
+not-both e = let z : _≡_ {A = ℕ} 0 1 = cc in omega arith
+
 jmp-back : (o : Operand) → operandFits 11 o ≡ true → decode (encode (Jmp o)) ≡ is (Jmp o)
 unfolding arm arms
 jmp-back o f =
@@ -206,3 +211,26 @@ round-trip (CondJmp (Reg r)) f d = clash d
 round-trip (CondJmp (Imm v)) f d = cond-jmp-back v f
 round-trip (Cmp r o k) f d = cmp-back r o k f
 round-trip (CallRet r n) f d = call-ret-back r n (ltb-true n (2 ^ 11) f)
+
+-- the form that is not decodable
+pub register-cjp-only : (i : Instruction) → decodable i ≡ false → (r : Register) × (i ≡ CondJmp (Reg r))
+register-cjp-only Noop d = clash (sym d)
+register-cjp-only (Mov r o) d = clash (sym d)
+register-cjp-only (MovShift r n left v) d = clash (sym d)
+register-cjp-only (Arith r o k) d = clash (sym d)
+register-cjp-only (ArithRegReg r a b k) d = clash (sym d)
+register-cjp-only (LdrStr r a s n) d = clash (sym d)
+register-cjp-only (LdbStb r a s n) d = clash (sym d)
+register-cjp-only (Cpy s t) d = clash (sym d)
+register-cjp-only (Jmp o) d = clash (sym d)
+register-cjp-only (CondJmp (Reg r)) d = (r, refl)
+register-cjp-only (CondJmp (Imm v)) d = clash (sym d)
+register-cjp-only (Cmp r o k) d = clash (sym d)
+register-cjp-only (CallRet r n) d = clash (sym d)
+
+-- it comes back as another instruction
+pub no-round-trip : (i : Instruction) → decodable i ≡ false → decode (encode i) ≡ is i → ⊥
+no-round-trip i d e =
+    let h = register-cjp-only i d in
+    let cjp = CondJmp (Reg (h .0)) in
+    not-both (is-one (Jmp (Reg (h .0))) cjp (sym (register-cjp (h .0)) ∙ subst (λ j. decode (encode j) ≡ is j) (h .1) e))

@@ -1,7 +1,8 @@
--- A field fits where it does not exceed its width in the table.
+-- A field fits where it does not exceed its width in the table; and which form no word says.
 use Prim.Native.Nat.{ℕ, _^_}
-use mathlib.Core.Bool.{Bool, true, false, _&&_}
+use mathlib.Core.Bool.{Bool, true, not, _&&_}
 use lib.Dec.{ltb}
+use Rattle.instruction.specs.Decode.{jumpsAlways}
 use Rattle.instruction.specs.declared.Operand.{Operand}
 use Rattle.instruction.specs.declared.Operand.the-variants.{Reg, Imm}
 use Rattle.instruction.specs.declared.Instruction.{Instruction}
@@ -29,15 +30,14 @@ fits (Cpy s t) = true
 fits (ArithRegReg d a b k) = true
 fits (CallRet ret address) = within 11 address
 
--- its form is one that decoding answers with: register-mode 5 decodes to Jmp, so that no word says a CondJmp to a register
+-- a register-mode CondJmp decodes to Jmp, so no word says it; every other form is one that decoding answers with
 abbrev pub decodable : Instruction → Bool
 decodable Noop = true
 decodable (Mov d o) = true
 decodable (MovShift r amount left v) = true
 decodable (Arith d o k) = true
 decodable (LdrStr r a store shift) = true
-decodable (CondJmp (Reg r)) = false
-decodable (CondJmp (Imm v)) = true
+decodable (CondJmp o) = not (jumpsAlways o)
 decodable (Jmp o) = true
 decodable (Cmp r o k) = true
 decodable (LdbStb r a store shift) = true

@@ -2,6 +2,7 @@
 mod codes;
 mod decoder;
 mod encoder;
+mod forms;
 mod widths;
 
 use base::Refusal;
@@ -16,6 +17,7 @@ pub use decoder::jumps_always;
 pub use decoder::operand_at;
 pub use decoder::register_at;
 pub use encoder::encode;
+pub use forms::decodable;
 pub use widths::fits;
 
 pub enum Register {

@@ -6,5 +6,6 @@ pub mod Laws
 pub mod ShownLaws
 pub mod AnswerLaws
 pub mod AsciiLaws
+pub mod Said
 pub mod Example
 pub mod NameLaws

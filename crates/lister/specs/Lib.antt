@@ -1,4 +1,5 @@
 pub mod Listing
+pub mod Said
 pub mod Pen
 pub mod Parts
 pub mod Names

@@ -1,6 +1,6 @@
 -- What printing answers and leaves, by whether the text fits, of an instruction and of a word; and a text's length, which is at most
 -- the sum of its parts' bounds, with five digits for an amount as for any number. Assumes nothing.
-use mathlib.Core.Path.{_≡_}
+use mathlib.Core.Path.{_≡_, refl}
 use mathlib.Core.Bool.{Bool, true, false}
 use mathlib.Core.List.{List, _++_}
 use Prim.Native.Nat.{ℕ, _+_, _≤_, _<_}
@@ -190,6 +190,27 @@ text-length (Jmp o) = omega (arith, one-length o)
 text-length (CondJmp o) = omega (arith, one-length o)
 text-length (Cmp r o op) = rw length-append (omega (arith, compare-length op, pair-length r o))
 text-length (CallRet ret a) = omega (arith, call-length ret a)
+
+pub noop-text : text Noop ≡ bytes "NOOP"
+unfolding text
+noop-text = refl
+
+-- no text is empty: what stands after a mnemonic starts with a space
+pub text-some : (i : Instruction) → 0 < length (text i)
+unfolding text one pair three shifted addressed callText
+text-some Noop = omega arith
+text-some (Mov d o) = omega arith
+text-some (MovShift r amount left imm) = rw length-append (omega arith)
+text-some (Arith d o op) = rw length-append (omega arith)
+text-some (ArithRegReg d a b op) = rw length-append (omega arith)
+text-some (LdrStr r a store shift) = rw length-append (omega arith)
+text-some (LdbStb r a store shift) = rw length-append (omega arith)
+text-some (Cpy a b) = omega arith
+text-some (Jmp o) = omega arith
+text-some (CondJmp o) = omega arith
+text-some (Cmp r o op) = rw length-append (omega arith)
+text-some (CallRet true a) = omega arith
+text-some (CallRet false a) = omega arith
 
 -- ---- what printing a word answers is small: a position of at most 26, a number of at most 19
 

@@ -3,4 +3,5 @@ pub mod RangeLaws
 pub mod LoadLaws
 pub mod TextLaws
 pub mod Demand
+pub mod Means
 pub mod Refused

@@ -91,7 +91,7 @@ unfoldable pub assembledWords : Bool → List ℕ → List ℕ → List ℕ
 assembledWords strict text words =
     cond (even words) (bytesOf (filled (length words / 2) (wordsOf (assembling strict text words)))) words
 
--- ---- kettle_version: 0.2.0, with two decimal digits each for minor and patch
+-- ---- kettle_version: 0.3.0, with two decimal digits each for minor and patch
 
 abbrev pub version : ℕ
-version = 10000 * 0 + 100 * 2 + 0
+version = 10000 * 0 + 100 * 3 + 0
