@@ -5,7 +5,7 @@
 ; the declared length are at 6 and 8.
 ;
 ; A comparison takes a number of at most 31, MOV one of at most 255: larger ones go into a register first. CJP jumps where the
-; comparison before it was true. It takes a label, never a register: its word would mean JMP, and is refused (handler.asm).
+; comparison before it was true. Give it a label, never a register: that word would mean JMP, and strict assembly refuses it.
 
 LDB A, [B #4]
 MOV C, #83

@@ -1,5 +1,5 @@
--- A text that is refused: 26 over the whole of it, or by the line that the answer names, counted from 1. So its number is 20 to 32,
--- and 32 names a line that says a CJP to a register, in strict assembly. By going through the lines. Assumes nothing.
+-- A text that is refused: with 26, or with a number that the line which the answer names, counted from 1, gives in some state. So its
+-- number is 20 to 32, and 32 names a line that says a CJP to a register, in strict assembly. By going through the lines. Assumes nothing.
 use Prim.Native.Nat.{ℕ, suc, _+_, _-_, _<_, _≤_}
 use mathlib.Core.Path.{_≡_, refl, sym, ap, subst, _∙_}
 use mathlib.Core.Bool.{Bool, true, false}
@@ -26,7 +26,7 @@ same-line : (n k line m : ℕ) → refused n line ≡ refused k m → line ≡ m
 same-line n k line m e = cc
 
 module _ (t : Task) (n k : ℕ) where
-  -- of these lines, before which so many were read, line k was refused with n
+  -- of these lines, before which so many were read, line k gives n, in some state of the work
   pub record Stops (ls : List (List ℕ)) (line : ℕ) : Type 0 where
     pub index : ℕ
     pub there : index < length ls

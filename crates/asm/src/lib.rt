@@ -19,8 +19,8 @@ pub use reading::read_line;
 pub use turns::do_line;
 pub use turns::name_in;
 
-// The rules that a text is held to. Strict refuses an instruction exactly if a field exceeds its width, plain masks the field. Both let
-// a CJP to a register through, whose word decodes to JMP.
+// The rules that a text is held to. Plain masks a field that exceeds its width, and lets a CJP to a register through, whose word
+// decodes to JMP. Strict refuses an instruction exactly if a field exceeds its width (30), or if it is a CJP to a register (32).
 pub struct Rules {
     pub strict: bool,
 }
