@@ -20,3 +20,4 @@ pub mod MarkedLaw
 pub mod Refusals
 pub mod Refused
 pub mod Plain
+pub mod Exact

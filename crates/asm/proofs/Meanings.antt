@@ -59,7 +59,7 @@ module _ (t : Task) where
     one-more : (s : Slot) → length (slots ++ s ∷ []) ≡ n + 1
     one-more s = length-append slots (s ∷ []) ∙ ap (λ (k : ℕ). k + 1) (h .count)
 
-    holds-says : (i : Instruction) → Work.says t i w ≡ is v → Holds (n + 1) before (slots ++ done i ∷ []) v
+    pub holds-says : (i : Instruction) → Work.says t i w ≡ is v → Holds (n + 1) before (slots ++ done i ∷ []) v
     holds-says i e =
         let s = said t w v i e in
         record {
@@ -84,12 +84,12 @@ module _ (t : Task) where
         }
 
     -- a reference comes to an instruction if the name is defined, else it waits
-    record Referred (r : Reference) (name : List ℕ) : Type 0 where
+    pub record Referred (r : Reference) (name : List ℕ) : Type 0 where
       pub slot : Slot
       pub holds : Holds (n + 1) before (slots ++ slot ∷ []) v
       pub means : (f : List ℕ → Told ℕ) → settle (t .text) f slot ≡ refer r (either (latest (t .text) name before) (f name))
 
-    referred : (r : Reference) (place size : ℕ) → place + size ≤ length (t .text) → references t r place size w ≡ is v → Referred r (part (t .text) place size)
+    pub referred : (r : Reference) (place size : ℕ) → place + size ≤ length (t .text) → references t r place size w ≡ is v → Referred r (part (t .text) place size)
     unfolding references
     referred r place size l e = go (find (t .text) name (w .labels)) known e
       where
@@ -118,7 +118,7 @@ module _ (t : Task) where
         Shows (t .strict) (t .text) name a (length (t .text)) 0 [] (map (becomes (t .text) name a) slots) p
     patch-slots name a p e = patched (t .strict) (t .text) name a (length (t .text)) slots 0 (h .good) [] p refl (rw (h .waiting, h .words) at e)
 
-    holds-label : (place size : ℕ) → place + size ≤ length (t .text) → labelled t place size w ≡ is v →
+    pub holds-label : (place size : ℕ) → place + size ≤ length (t .text) → labelled t place size w ≡ is v →
         Holds n (Labels.label place size (doubled n) ∷ before) (map (becomes (t .text) (part (t .text) place size) (doubled n)) slots) v
     unfolding labelled
     holds-label place size l e =
@@ -140,7 +140,7 @@ module _ (t : Task) where
   -- ---- all lines
 
   -- what slots mean, n instructions having come before these items
-  abbrev rest : ℕ → List Item → Slot → Meant
+  abbrev pub rest : ℕ → List Item → Slot → Meant
   rest n items = settle (t .text) (λ name. later (t .text) name n items)
 
   ends : (items : List Item) (n : ℕ) (before : List Label) (slots : List Slot) (w v : Work) → Within (length (t .text)) items → Holds n before slots w →
@@ -183,7 +183,7 @@ module _ (t : Task) where
       ap (λ (m : Meant). map (rest (n + 1) items) slots ++ m ∷ ms) (q .means (λ x. later (t .text) x (n + 1) items)))
       (ends items (n + 1) before (slots ++ q .slot ∷ []) (s .value) v (i .1) (q .holds) (s .next))
 
-  at-first : Holds 0 [] [] nothing
+  pub at-first : Holds 0 [] [] nothing
   at-first = record { count = refl; words = refl; waiting = refl; labels = λ name. refl; good = tt }
 
   pub ended : (w : Work) → assemble t ≡ accepted w → Ends (definitions (t .text)) (meaning (t .text)) w

@@ -1,6 +1,6 @@
--- Request 2, to be held beside its words: "the word in memory must mean what the line says. Refuse a register-mode CJP too." Three
--- statements: when strict assembly gives 32, that it gives nothing else beside 30 and what plain assembly gives, and what its words
--- say. Proved in proofs/Refusals.antt, Plain.antt and Sound.antt.
+-- Request 2, to be held beside its words: "the word in memory must mean what the line says. Refuse a register-mode CJP too." Four
+-- statements: when strict assembly gives 32, what it accepts, that it gives nothing else beside 30 and what plain assembly gives, and
+-- what its words say. Proved in proofs/Refusals.antt, Exact.antt, Plain.antt and Sound.antt.
 use Prim.Native.Nat.{ℕ}
 use mathlib.Core.Path.{_≡_}
 use mathlib.Core.Bool.{true, false}
@@ -12,6 +12,7 @@ use Rattle.instruction.specs.declared.Instruction.the-variants.{CondJmp}
 use Rattle.instruction.specs.declared.Operand.the-variants.{Reg}
 use Rattle.instruction.specs.declared.Register.{Register}
 use Rattle.instruction.specs.Decode.{decode}
+use Rattle.instruction.specs.Fits.{fits, decodable}
 use Rattle.asm.specs.Reading.{Item, read}
 use Rattle.asm.specs.Reading as Reading
 use Rattle.asm.specs.Work.{Task, Work, turn}
@@ -28,7 +29,19 @@ StrictRefuses = (t : Task) (at : ℕ) (line : List ℕ) (w : Work) →
     (turn t at (read line) w ≡ no 32 → (t .strict ≡ true) × Cjp (read line)) ×
     ((t .strict ≡ true) × Cjp (read line) → turn t at (read line) w ≡ no 32)
 
--- ---- strict assembly ends as plain assembly does, or with 30, or with 32
+-- ---- strict assembly accepts exactly what plain assembly accepts and whose instructions all fit and decode back, with the same words
+
+abbrev pub Sayable : List Meant → Type 0
+Sayable [] = Unit {0}
+Sayable (instruction i ∷ ms) = ((fits i ≡ true) × (decodable i ≡ true)) × Sayable ms
+Sayable (never ∷ ms) = Sayable ms
+
+abbrev pub StrictAccepts : Type 0
+StrictAccepts = (text : List ℕ) (wordRoom labelRoom : ℕ) (w : Work) →
+    (outcome true text wordRoom labelRoom ≡ accepted w → (outcome false text wordRoom labelRoom ≡ accepted w) × Sayable (meaning text)) ×
+    (outcome false text wordRoom labelRoom ≡ accepted w → Sayable (meaning text) → outcome true text wordRoom labelRoom ≡ accepted w)
+
+-- ---- what it does not accept, it refuses as plain assembly does, or with 30, or with 32
 
 abbrev pub StrictPlain : Type 0
 StrictPlain = (text : List ℕ) (wordRoom labelRoom : ℕ) →
