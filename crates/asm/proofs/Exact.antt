@@ -5,7 +5,7 @@ use Prim.Native.Nat.{ℕ, suc, _+_, _≤_}
 use mathlib.Core.Path.{_≡_, refl, sym, ap, subst, _∙_}
 use mathlib.Core.Bool.{Bool, true, false}
 use mathlib.Core.List.{List, [], _∷_, _++_, map}
-use mathlib.Core.Logic.{_⊎_, inl, inr}
+use mathlib.Core.Logic.{inl, inr}
 use lib.Dec.{eqb}
 use lib.ListN.{length, set}
 use Rattle.base.specs.Choice.{cond}
@@ -31,7 +31,7 @@ use Rattle.asm.specs.Reading as Reading
 use Rattle.asm.specs.Work.{Task, task, Work, work, nothing, withWords, says, opens, refersTo, references, labelled, turn}
 use Rattle.asm.specs.Assemble.{Outcome, accepted, refused, nextLine, assembleFrom, assemble, outcome}
 use Rattle.asm.specs.Meaning.{Meant, instruction, never, placed, itemsFrom, latest, later, either, refer, meant, meaning, leadsTo}
-use Rattle.asm.specs.Strict.{Sayable, AllSay, StrictAccepts}
+use Rattle.asm.specs.Strict.{Sayable, AllSay, AsPlain, StrictAccepts}
 use Rattle.asm.proofs.Items.{refused-not}
 use Rattle.asm.proofs.Meanings as Meanings
 use Rattle.asm.proofs.Places.{Within, text-within}
@@ -262,9 +262,8 @@ strict-accepts text room labels w = (
   accepts text room labels w,
 )
   where
-    plainly : (outcome true text room labels ≡ outcome false text room labels) ⊎
-        ((line : ℕ) × ((outcome true text room labels ≡ refused 30 line) ⊎ (outcome true text room labels ≡ refused 32 line))) →
-        outcome true text room labels ≡ accepted w → outcome false text room labels ≡ accepted w
+    plainly : AsPlain (outcome true text room labels) (outcome false text room labels) → outcome true text room labels ≡ accepted w →
+        outcome false text room labels ≡ accepted w
     plainly (inl p) e = sym p ∙ e
     plainly (inr (line, inl p)) e = refused-not 30 line w (sym p ∙ e)
     plainly (inr (line, inr p)) e = refused-not 32 line w (sym p ∙ e)

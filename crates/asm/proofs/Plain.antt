@@ -25,7 +25,7 @@ use Rattle.asm.specs.Words.{strictOrder, strictWord, wordOf, addWord, ad
 use Rattle.asm.specs.Labels.{part, define, Patched, keep, patch}
 use Rattle.asm.specs.Reading.{Item, read}
 use Rattle.asm.specs.Reading as Reading
-use Rattle.asm.specs.Strict.{StrictPlain}
+use Rattle.asm.specs.Strict.{AsPlain, StrictPlain}
 use Rattle.asm.specs.Work.{Task, task, Work, work, nothing, withWords, says, opens, refersTo, references, labelled, turn}
 use Rattle.asm.specs.Assemble.{Outcome, refused, nextLine, assembleFrom, assemble}
 
@@ -113,19 +113,16 @@ module _ (text : List ℕ) (room labels : ℕ) where
 
   -- ---- all lines
 
-  abbrev Ends : Outcome → Outcome → Type 0
-  Ends x y = (x ≡ y) ⊎ ((line : ℕ) × ((x ≡ refused 30 line) ⊎ (x ≡ refused 32 line)))
-
-  next-alike : (line : ℕ) (x y : Told Work) (f g : Work → Outcome) → Alike x y → ((w : Work) → Ends (f w) (g w)) → Ends (nextLine line x f) (nextLine line y g)
+  next-alike : (line : ℕ) (x y : Told Work) (f g : Work → Outcome) → Alike x y → ((w : Work) → AsPlain (f w) (g w)) → AsPlain (nextLine line x f) (nextLine line y g)
   next-alike line x y f g (inl e) k = rw e (go y)
     where
-      go : (z : Told Work) → Ends (nextLine line z f) (nextLine line z g)
+      go : (z : Told Work) → AsPlain (nextLine line z f) (nextLine line z g)
       go (is w) = k w
       go (no n) = inl refl
   next-alike line x y f g (inr (inl e)) k = inr (line, inl (ap (λ z. nextLine line z f) e))
   next-alike line x y f g (inr (inr e)) k = inr (line, inr (ap (λ z. nextLine line z f) e))
 
-  lines-alike : (ls : List (List ℕ)) (at line : ℕ) (w : Work) → Ends (assembleFrom (ruled true) ls at line w) (assembleFrom (ruled false) ls at line w)
+  lines-alike : (ls : List (List ℕ)) (at line : ℕ) (w : Work) → AsPlain (assembleFrom (ruled true) ls at line w) (assembleFrom (ruled false) ls at line w)
   lines-alike [] at line w = inl refl
   lines-alike (l ∷ ls) at line w =
       let rest : Bool → Work → Outcome = λ strict. assembleFrom (ruled strict) ls (at + length l + 1) (line + 1) in
@@ -139,6 +136,6 @@ strict-plain text room labels = go (eqb (foreignLine 1 text) 0)
     from : Bool → Outcome
     from strict = assembleFrom (task strict text room labels) (lines text) 0 0 nothing
 
-    go : (b : Bool) → Ends text room labels (cond b (from true) (refused 26 (foreignLine 1 text))) (cond b (from false) (refused 26 (foreignLine 1 text)))
+    go : (b : Bool) → AsPlain (cond b (from true) (refused 26 (foreignLine 1 text))) (cond b (from false) (refused 26 (foreignLine 1 text)))
     go true = lines-alike text room labels (lines text) 0 0 nothing
     go false = inl refl

@@ -16,7 +16,7 @@ use Rattle.instruction.specs.Fits.{fits, decodable}
 use Rattle.asm.specs.Reading.{Item, read}
 use Rattle.asm.specs.Reading as Reading
 use Rattle.asm.specs.Work.{Task, Work, turn}
-use Rattle.asm.specs.Assemble.{accepted, refused, outcome}
+use Rattle.asm.specs.Assemble.{Outcome, accepted, refused, outcome}
 use Rattle.asm.specs.Meaning.{Meant, instruction, never, meaning, nevers}
 
 -- ---- 32: exactly in strict assembly, and of a line that says a CJP to a register, wherever it stands. Not of a label line, then.
@@ -43,10 +43,11 @@ StrictAccepts = (text : List ℕ) (wordRoom labelRoom : ℕ) (w : Work) →
 
 -- ---- what it does not accept, it refuses as plain assembly does, or with 30, or with 32
 
+abbrev pub AsPlain : Outcome → Outcome → Type 0
+AsPlain strict plain = (strict ≡ plain) ⊎ ((line : ℕ) × ((strict ≡ refused 30 line) ⊎ (strict ≡ refused 32 line)))
+
 abbrev pub StrictPlain : Type 0
-StrictPlain = (text : List ℕ) (wordRoom labelRoom : ℕ) →
-    (outcome true text wordRoom labelRoom ≡ outcome false text wordRoom labelRoom) ⊎
-    ((line : ℕ) × ((outcome true text wordRoom labelRoom ≡ refused 30 line) ⊎ (outcome true text wordRoom labelRoom ≡ refused 32 line)))
+StrictPlain = (text : List ℕ) (wordRoom labelRoom : ℕ) → AsPlain (outcome true text wordRoom labelRoom) (outcome false text wordRoom labelRoom)
 
 -- ---- the words of a strictly accepted text decode, one by one, to the very instructions that its lines say, labels resolved to the
 -- very addresses (Meaning.antt). One case is left: a line that refers to a label that is never defined. Its word is 0, and the answer
@@ -57,7 +58,7 @@ abbrev pub Says : Meant → ℕ → Type 0
 Says (instruction i) w = decode w ≡ is i
 Says never w = w ≡ 0
 
--- as many words as lines, each says what its line means
+-- one word for each of what the lines mean, and it says that
 abbrev pub AllSay : List Meant → List ℕ → Type 0
 AllSay [] [] = Unit {0}
 AllSay [] (w ∷ ws) = ⊥
