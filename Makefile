@@ -1,12 +1,12 @@
 # The C side: one archive, one header.
 #
-#   make             proves and builds target/staticlib/libseamkettle.a and target/bin/listing
+#   make             proves and builds target/staticlib/libseamkettle.a, target/bin/listing and target/bin/sourcing
 #   make test        builds the C tests and runs them
 #   make test-replay runs the stored script through the archive, and live ones where the Rust is built (oracle/build)
 #   make fuzz        fuzzes the archive, SECONDS=60 (docs/FUZZING.md)
 #   make example     builds the example and runs it
-#   make install     installs header, archive, pkg-config file, the listing command and man pages: PREFIX=/usr/local, DESTDIR
-#                    before all paths
+#   make install     installs header, archive, pkg-config file, the listing and source commands and man pages: PREFIX=/usr/local,
+#                    DESTDIR before all paths
 #   make uninstall   removes what it installed
 #   make dist        writes a release, target/dist/seamkettle-VERSION-x86_64.tar.gz, which needs no kit: DIST=target/dist
 #   make clean       removes what was built of C, target/c; proofs and archive stay
@@ -15,8 +15,8 @@
 # All that is built goes to target/.
 
 LIB = target/staticlib/libseamkettle.a
-SCRIPT = tools/listing
-PROGRAM = target/bin/listing
+SCRIPTS = tools/listing tools/source
+PROGRAMS = target/bin/listing target/bin/sourcing
 DIST ?= target/dist
 CFLAGS ?= -O2 -g
 CXXFLAGS ?= -O2 -g
@@ -37,14 +37,15 @@ INSTALLED = CC='$(CC)' CFLAGS='$(CFLAGS)' LDFLAGS='$(LDFLAGS) $(STATIC)' RUN='$(
 COMPILE = $(CC) -std=c99 -Wall -Wextra -pedantic -Iinclude $(CFLAGS)
 STRICT = -Wconversion -Wshadow -Werror
 
-TESTS = count guard machines reference interpreter answers tables programs steps instructions \
-    journals walks texts limits meanings listings prints helpers records wrappers damage lengths
+TESTS = count guard machines reference interpreter printer answers tables programs steps instructions \
+    journals walks texts limits meanings listings prints sources helpers records wrappers damage lengths
 EXAMPLES = $(patsubst examples/%.c,target/c/%,$(wildcard examples/*.c))
 
-.PHONY: all test test-papers test-entries test-headers test-install test-dist test-archive example examples dist clean always
+.PHONY: all test test-papers test-entries test-headers test-install test-dist test-archive test-tour example examples dist clean \
+    always
 .DELETE_ON_ERROR:
 
-all: $(LIB) $(PROGRAM)
+all: $(LIB) $(PROGRAMS)
 
 # tools/build finds out whether there is anything to do
 target/staticlib/libseamkettle.a: always
@@ -52,12 +53,12 @@ target/staticlib/libseamkettle.a: always
 
 # ---- tests and example
 
-test: test-papers test-headers test-entries test-install test-dist test-archive
+test: test-papers test-headers test-entries test-install test-dist test-archive test-tour
 
 # the papers beside the sources; the page of the assembly language beside the listing command
-test-papers: $(PROGRAM)
+test-papers: target/bin/listing
 	tests/c/papers
-	tests/c/asm7 $(SCRIPT)
+	tests/c/asm7 tools/listing
 	@if command -v mandoc >/dev/null; then echo mandoc $(MAN) && mandoc -T lint -W warning $(MAN); \
 	    else echo 'the form of the man pages: NOT TRIED, mandoc is not here'; fi
 
@@ -117,17 +118,22 @@ example: examples
 	examples/run $(RUN) target/c/acceptance
 	[ "$$($(RUN) target/c/first)" = 'A is 42 after 3 steps' ]
 
+# README's tour, as it stands there
+test-tour: examples $(PROGRAMS)
+	tests/c/tour
+
 # ---- installing
 
-# a program of its own, which the script beside it starts
-target/bin/listing: $(LIB)
-	@tools/build listing
+# programs of their own, which the scripts start; one after the other, as rt proves two crates at a time by itself
+$(PROGRAMS): target/bin/%: $(LIB)
+	@tools/build $*
 	@touch $@
+target/bin/sourcing: | target/bin/listing
 
 include release/install.mk
 
 dist: all
-	tools/dist '$(VERSION)' '$(LIB)' '$(PROGRAM)' '$(DIST)'
+	tools/dist '$(VERSION)' '$(LIB)' '$(DIST)' $(PROGRAMS)
 
 clean:
 	rm -rf target/c

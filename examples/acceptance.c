@@ -1,11 +1,12 @@
 /*
  * acceptance: what a daemon at the end of a file link does with each file that lands.
  *
- *   acceptance [-s STEPS] PROGRAM.asm FILE...
+ *   acceptance [-s STEPS] [-w WORDS] PROGRAM.asm FILE...
  *
  * The site's program is assembled strictly and loaded once. Then, for each file, the machine starts anew from that state, sees the
  * file through a device, and runs at most STEPS steps (10,000 if not said otherwise). Without a FILE the program is only assembled
- * and loaded. Exit status: 0 if all files were accepted, 1 if any was rejected, 2 on an error.
+ * and loaded. With -w the program's words are taken out of the machine's memory again, into the file WORDS: seamkettle-source makes
+ * a text of them. Exit status: 0 if all files were accepted, 1 if any was rejected, 2 on an error.
  *
  * What the program finds when it starts: B is the device's address, all other registers are 0. The device has 32 bytes, which is
  * how far a shift reaches, as in LDR A, [B #30]:
@@ -72,7 +73,7 @@ static struct kettle_machine lent(struct machine *m)
 struct program {
     const char *name;
     uint8_t *text;
-    size_t text_len;
+    size_t text_len, words_len;
 };
 
 /* ---- the program ---------------------------------------------------------------------------------------------------------- */
@@ -108,7 +109,7 @@ static void say_refused(const char *what, uint64_t answer)
 }
 
 /* Assembles the program into words, which must be no more than fit below the device: else this is KETTLE_PROGRAM_FULL. */
-static int assemble(const struct program *p, uint8_t *words, size_t words_room, size_t *words_len)
+static int assemble(struct program *p, uint8_t *words, size_t words_room)
 {
     uint64_t answer = kettle_assemble(p->text, p->text_len, 1, words, words_room);
 
@@ -123,7 +124,7 @@ static int assemble(const struct program *p, uint8_t *words, size_t words_room, 
         fprintf(stderr, "%s: references to labels that are not defined: %u\n", p->name, kettle_open_references(answer));
         return FAILED;
     }
-    *words_len = kettle_words_len(answer);
+    p->words_len = kettle_words_len(answer);
     return 0;
 }
 
@@ -137,24 +138,42 @@ static int refused(const struct program *p, const char *what, uint64_t answer)
 }
 
 /* Makes the machine that every file starts from. */
-static int prepare(struct machine *start, const struct program *p)
+static int prepare(struct machine *start, struct program *p)
 {
     static uint8_t words[DEVICE_START];
     struct kettle_machine k = lent(start);
-    size_t words_len;
 
-    if (assemble(p, words, sizeof words, &words_len) != 0)
+    if (assemble(p, words, sizeof words) != 0)
         return FAILED;
     memset(start, 0, sizeof *start);
     kettle_fresh(start->block, 0);
     if (refused(p, "the device was", kettle_machine_device(&k, DEVICE_START, DEVICE_SIZE)) != 0)
         return FAILED;
-    if (refused(p, "loading was", kettle_machine_load(&k, words, words_len)) != 0)
+    if (refused(p, "loading was", kettle_machine_load(&k, words, p->words_len)) != 0)
         return FAILED;
     /* A load protects half of a program's bytes. A site whose programs store into themselves has to leave this out. */
-    if (refused(p, "protection was", kettle_machine_protect_rest(&k, words_len)) != 0)
+    if (refused(p, "protection was", kettle_machine_protect_rest(&k, p->words_len)) != 0)
         return FAILED;
     return refused(p, "setting B was", kettle_machine_set_register(&k, KETTLE_B, DEVICE_START));
+}
+
+/* Takes the program's words out of the machine's memory, into a file. What stands after so many bytes is no program. */
+static int take_out(struct machine *m, const struct program *p, const char *name)
+{
+    static uint8_t words[DEVICE_START];
+    struct kettle_machine k = lent(m);
+    FILE *f;
+    size_t done;
+
+    if (refused(p, "reading was", kettle_machine_read(&k, 0, p->words_len, words, sizeof words)) != 0)
+        return FAILED;
+    f = fopen(name, "wb");
+    if (f == NULL)
+        return complain(name, strerror(errno));
+    done = fwrite(words, 1, p->words_len, f);
+    if (fclose(f) != 0 || done != p->words_len)
+        return complain(name, "cannot be written");
+    return 0;
 }
 
 /* ---- a file --------------------------------------------------------------------------------------------------------------- */
@@ -314,25 +333,27 @@ static int receive_all(const struct machine *start, char **names, uint32_t limit
     return worst;
 }
 
-static int serve(struct program *p, char **names, uint32_t limit)
+static int serve(struct program *p, const char *words_name, char **names, uint32_t limit)
 {
     static struct machine start;
 
     if (read_text(p) != 0 || prepare(&start, p) != 0)
         return FAILED;
+    if (words_name != NULL && take_out(&start, p, words_name) != 0)
+        return FAILED;
     return receive_all(&start, names, limit);
 }
 
-static int with_program(const char *name, char **names, uint32_t limit)
+static int with_program(const char *name, const char *words_name, char **names, uint32_t limit)
 {
-    struct program p = { name, NULL, 0 };
+    struct program p = { name, NULL, 0, 0 };
     int status;
 
     p.text = malloc(TEXT_MOST);
     if (p.text == NULL)
         status = complain(name, "there is no memory for it");
     else
-        status = serve(&p, names, limit);
+        status = serve(&p, words_name, names, limit);
     free(p.text);
     return status;
 }
@@ -352,18 +373,22 @@ static uint32_t steps_of(const char *digits)
 int main(int argc, char **argv)
 {
     uint32_t limit = STEPS;
+    const char *words_name = NULL;
     int option;
     int status;
 
     if (kettle_version() != KETTLE_VERSION)
         return complain("libseamkettle.a", "is not of the version that this was compiled for");
-    while ((option = getopt(argc, argv, "s:")) == 's')
-        limit = steps_of(optarg);
+    while ((option = getopt(argc, argv, "s:w:")) == 's' || option == 'w')
+        if (option == 's')
+            limit = steps_of(optarg);
+        else
+            words_name = optarg;
     if (option != -1 || limit == 0 || optind == argc) {
-        fprintf(stderr, "usage: acceptance [-s STEPS] PROGRAM.asm FILE...\n");
+        fprintf(stderr, "usage: acceptance [-s STEPS] [-w WORDS] PROGRAM.asm FILE...\n");
         return FAILED;
     }
-    status = with_program(argv[optind], argv + optind + 1, limit);
+    status = with_program(argv[optind], words_name, argv + optind + 1, limit);
     /* A verdict that could not be written must not count as one. */
     if (fflush(stdout) != 0 || ferror(stdout))
         return complain("standard output", "cannot be written");

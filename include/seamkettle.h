@@ -4,7 +4,7 @@
  * language of the programs.
  *
  * Each function takes bytes that the caller owns and answers one number: a code in its low 16 bits (kettle_code_of), and above it
- * what was counted (kettle_words, kettle_steps, kettle_bytes, kettle_line).
+ * what was counted (kettle_words, kettle_steps, kettle_bytes, kettle_line, kettle_index).
  *
  *   block     the machine's state, KETTLE_BLOCK_SIZE bytes, laid out below; kettle_fresh makes a new one
  *   memory    linear memory, any length; bytes past 65,535 are never touched
@@ -17,7 +17,7 @@
  * same: gcc warns of a buffer that was never written). The buffers of one call must not overlap, unless the call writes to
  * neither of the two (both are const). Nothing is kept between two calls and nothing is allocated, so any thread may call any
  * function on buffers of its own. No function calls back, waits or fails to return. Stack: KETTLE_STACK_TEXT bytes are enough for
- * kettle_assemble and kettle_list, KETTLE_STACK_LOAD for kettle_load, KETTLE_STACK_OTHER for each of the others.
+ * kettle_assemble, kettle_list and kettle_text, KETTLE_STACK_LOAD for kettle_load, KETTLE_STACK_OTHER for each of the others.
  *
  * A function with a block, memory, devices and journal can be called with these one by one, or through struct kettle_machine, which
  * says where they are (at the end of this header). Both do the same.
@@ -47,7 +47,7 @@ extern "C" {
 /* The header's version; kettle_version is the archive's. Where the two differ, the block may have another size, and then each
  * function that takes one answers KETTLE_BAD_BLOCK: ask at the start whether they are equal. */
 #define KETTLE_VERSION_MAJOR 0
-#define KETTLE_VERSION_MINOR 3
+#define KETTLE_VERSION_MINOR 4
 #define KETTLE_VERSION_PATCH 0
 #define KETTLE_VERSION (10000 * KETTLE_VERSION_MAJOR + 100 * KETTLE_VERSION_MINOR + KETTLE_VERSION_PATCH)
 
@@ -114,7 +114,7 @@ extern "C" {
     CODE(KETTLE_OVERLAP, 13, "it overlaps an entry of its table (of devices: or touches one)") \
     CODE(KETTLE_TABLE_FULL, 14, "all 8 entries of the table are used") \
     CODE(KETTLE_WRITE_FAILED, 15, "a word of the program could not be stored: no memory there, or it is protected") \
-    CODE(KETTLE_TOO_LONG, 16, "a program of over 32,768 words") \
+    CODE(KETTLE_TOO_LONG, 16, "a program of over 32,768 words, or of over 32,767 to make a text of") \
     CODE(KETTLE_NO_DEVICE_ROOM, 17, "the devices' buffer is too short for one more of this size") \
     CODE(KETTLE_BAD_REGISTER, 18, "a register's number is over 7") \
     CODE(KETTLE_NO_ROOM, 19, "the buffer is shorter than the size asked for, or than the text") \
@@ -130,7 +130,9 @@ extern "C" {
     CODE(KETTLE_TOO_MANY_FIXUPS, 28, "a label that is not defined yet, and 512 references wait for one") \
     CODE(KETTLE_PROGRAM_FULL, 29, "all words of the buffer, or 32,767, are used") \
     CODE(KETTLE_FIELD_TOO_WIDE, 30, "strict: a number does not fit into its field, as a label past 2,047 in a jump") \
-    CODE(KETTLE_NOT_DECODABLE, 32, "strict: a CJP to a register; its word would mean JMP")
+    CODE(KETTLE_NOT_DECODABLE, 32, "strict: a CJP to a register; its word would mean JMP") \
+    /* words to make a text of; kettle_index tells the word */ \
+    CODE(KETTLE_NO_TEXT, 33, "a word that no line of assembly gives")
 
 #define KETTLE_NUMBER(name, number, text) name = number,
 #define KETTLE_NAME(name, number, text) case name: return #name;
@@ -193,9 +195,10 @@ enum {
 };
 
 enum {
-    KETTLE_WORDS_MOST = 32767,     /* that kettle_assemble makes */
-    KETTLE_PRINT_MOST = 26,        /* bytes: no word has a longer text */
+    KETTLE_WORDS_MOST = 32767,     /* that kettle_assemble makes, and kettle_text takes */
+    KETTLE_PRINT_MOST = 26,        /* bytes: kettle_print writes no more */
     KETTLE_LISTING_MOST = 1212432, /* bytes: no listing is longer */
+    KETTLE_TEXT_MOST = 851942,     /* bytes: kettle_text writes no more */
     KETTLE_STACK_TEXT = 131072,
     KETTLE_STACK_LOAD = 98304,
     KETTLE_STACK_OTHER = 4096
@@ -215,10 +218,17 @@ static inline uint32_t kettle_steps(uint64_t answer)
     return KETTLE_CAST(uint32_t, answer >> 16);
 }
 
-/* how many bytes a kettle_read, kettle_list or kettle_print wrote: 0 of a refused one */
+/* how many bytes a kettle_read, kettle_list, kettle_print or kettle_text wrote: 0 of a refused one */
 static inline size_t kettle_bytes(uint64_t answer)
 {
-    return KETTLE_CAST(size_t, answer >> 16);
+    return kettle_code_of(answer) == KETTLE_ACCEPTED ? KETTLE_CAST(size_t, answer >> 16) : 0;
+}
+
+/* which word a kettle_text with KETTLE_NO_TEXT was refused for, the first such one, from 0: its two bytes are at twice that. 0 of
+ * every other answer, so look at the code first. */
+static inline size_t kettle_index(uint64_t answer)
+{
+    return kettle_code_of(answer) == KETTLE_NO_TEXT ? KETTLE_CAST(size_t, answer >> 16) : 0;
 }
 
 /* the line of a refused kettle_assemble, from 1, at most 2^48 - 1: 0 of an accepted one, and of KETTLE_BAD_BLOCK */
@@ -341,6 +351,17 @@ uint64_t kettle_list(const uint8_t *text, size_t text_len, uint8_t *out, size_t 
  * KETTLE_PRINT_MOST bytes are always enough. Counted: kettle_bytes. 4 to 6, 19. */
 KETTLE_LOOK KETTLE_OUT(2)
 uint64_t kettle_print(uint16_t word, uint8_t *out, size_t out_len);
+
+/* Source for words, to read and edit: plain assembly of this text, with room for as many words, gives the very same ones, or 28
+ * where over 512 of its jumps and calls at once wait for labels further down. Each word has a line, ended by byte 10, with what
+ * kettle_print says of it; but NOOP is DBG, MSL and MSR have the amount last, and the word of a CJP to a register is that CJP
+ * (which strict assembly refuses with 32). Where a jump or call has the address of one of the words, a label stands for the
+ * number: L and the address in four upper-case hexadecimal digits, as L0010, with a line of its own just before that word's. There
+ * are no other labels: an odd address, and one past the last word, stay numbers. Of no words the text is empty. The buffer's bytes
+ * past it stay; no byte 0 is added; KETTLE_TEXT_MOST bytes are always enough. Counted: kettle_bytes; of 33 kettle_index.
+ * KETTLE_BAD_BLOCK (odd words_len only), 16, 33, 19. */
+KETTLE_LOOK KETTLE_IN(1) KETTLE_OUT(3)
+uint64_t kettle_text(const uint8_t *words, size_t words_len, uint8_t *out, size_t out_len);
 
 /* ---- functions: setting a machine up -------------------------------------------------------------------------------------- */
 

@@ -19,7 +19,8 @@ pub fn line_answer(line: &str, addresses: &HashMap<String, u16>) -> Result<Instr
     quietly(|| caught(|| parse_assembly_line(line, addresses)))?.map_err(|error| number_of(&error))
 }
 
-fn text_answer(text: &str) -> Result<Vec<Instruction>, String> {
+/// What the Rust makes of a whole text.
+pub fn text_answer(text: &str) -> Result<Vec<Instruction>, String> {
     quietly(|| caught(|| resolve_and_parse_assembly(text)))?.map_err(|error| number_of(&error))
 }
 

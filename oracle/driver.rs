@@ -18,6 +18,8 @@ mod panics;
 mod past;
 mod pieces;
 mod quiet;
+mod source_part;
+mod sourcing;
 mod undo;
 mod walk;
 
@@ -67,6 +69,9 @@ const COMMANDS: &[(&[u8], Command)] = &[
     (b"asmn", assembler_part::asmn),
     (b"line", assembler_part::line),
     (b"listing", assembler_part::listing),
+    // text from words, of 02's request 3, over decoder, encoder, printer and assembler
+    (b"text", source_part::text),
+    (b"textn", source_part::textn),
 ];
 
 fn main() -> io::Result<()> {

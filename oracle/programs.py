@@ -12,17 +12,25 @@ MEMORY = ["byte", "word", "put", "putw", "protect", "device", "load", "loadn", "
 MACHINE = ["set", "step", "decode", "print", "encode"]
 JOURNAL = ["run", "back", "forget"]
 ASSEMBLER = ["asm", "asmn", "line", "listing"]
-COMMANDS = LANGUAGE + MEMORY + MACHINE + JOURNAL + ASSEMBLER + ["state"]
+SOURCES = ["text", "textn"]
+COMMANDS = LANGUAGE + MEMORY + MACHINE + JOURNAL + ASSEMBLER + SOURCES + ["state"]
 
 # A move of a walk: what the machine does, and what the host does to it.
 MOVES = JOURNAL + ["step", "set", "protect", "device", "load", "loadn", "put", "putw", "poke", "regs", "tables", "cursor"]
 WALKS = ["moves", "journal-readings", "journal-limits"]
 
 # What is counted apart. Moves are counted in walks alone.
-COUNTED = {"steps": ["step"], "moves": MOVES, "step-backs": ["back"], "texts": ["asm", "asmn", "listing"], "lines": ["line"]}
+COUNTED = {
+    "steps": ["step"],
+    "moves": MOVES,
+    "step-backs": ["back"],
+    "texts": ["asm", "asmn", "listing"],
+    "lines": ["line"],
+    "sources": SOURCES,
+}
 
-# The numbers that a command can answer: 01's, and 32 of 02. 31 is the block's, which no command has.
-NUMBERS = [*range(1, 31), 32]
+# The numbers that a command can answer: 01's, and 32 and 33 of 02. 31 is the block's, which no command has.
+NUMBERS = [*range(1, 31), 32, 33]
 
 # What a step answers, and answers that are a word by themselves.
 WENT = ["continue", "debug", "stop"]

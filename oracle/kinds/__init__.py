@@ -13,6 +13,10 @@ from . import (
     lines,
     moves,
     numbers,
+    source_limits,
+    source_readings,
+    source_words,
+    sources,
     step_readings,
     steps,
     text_limits,
@@ -31,6 +35,7 @@ ENDLESS = {
     "moves": moves.blocks,
     "texts": texts.blocks,
     "lines": lines.blocks,
+    "sources": sources.blocks,
 }
 
 # These go once through all that they are about.
@@ -46,6 +51,9 @@ ONCE = {
     "text-readings": text_readings.once,
     "text-limits": text_limits.once,
     "line-shapes": line_shapes.once,
+    "source-readings": source_readings.once,
+    "source-limits": source_limits.once,
+    "source-words": source_words.once,
 }
 
 KINDS = ENDLESS | ONCE

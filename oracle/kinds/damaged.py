@@ -38,7 +38,7 @@ def every_command(rng, machine):
     commands += [bad_line(rng, rng.choice(bases)) for _ in range(5)]
     rng.shuffle(commands)
     commands.insert(rng.randrange(len(commands)), "state")
-    return commands + ["state"]
+    return commands + ["text 22 70 0", "textn 2 12 3", "state"]
 
 
 # ---- one broken thing each. Some ways keep the tables valid on purpose: they stand just beside a broken one

@@ -39,12 +39,24 @@ def cjp(address):
     return 5 + 32 * address
 
 
+def register_cjp(reg):
+    return 21 + 32 * reg
+
+
 def jmp(address):
     return 6 + 32 * address
 
 
+def register_jmp(reg):
+    return 22 + 32 * reg
+
+
 def compare(op, reg, imm):
     return 7 + 16 * reg + 128 * op + 2048 * imm
+
+
+def compare_register(op, reg, other):
+    return 7 + 16 * reg + 128 * op + 1024 + 2048 * other
 
 
 def cpy(source, target):

@@ -33,7 +33,8 @@ static void blocks(void)
 
 /* ---- answers by their meaning -------------------------------------------------------------------------------------------- */
 
-/* what is counted above a code: of an accepted assembly words, open references and labels, of a refused one the line alone */
+/* what is counted above a code: of an accepted assembly words, open references and labels, of a refused one the line alone; of
+ * other accepted calls bytes, of 33 a word's index */
 static void made_up(void)
 {
     static const uint64_t above[] = {0, 1, 0xffff, 0x10000, 0xfedcba987654u, 0xffffffffffffu};
@@ -48,7 +49,8 @@ static void made_up(void)
             NUMBER(kettle_words_len(answer), good ? above[i] % 65536 * 2 : 0);
             NUMBER(kettle_open_references(answer), good ? above[i] / 65536 % 65536 : 0);
             NUMBER(kettle_labels(answer), good ? above[i] / 65536 / 65536 : 0);
-            NUMBER(kettle_bytes(answer), above[i]);
+            NUMBER(kettle_bytes(answer), good ? above[i] : 0);
+            NUMBER(kettle_index(answer), code == KETTLE_NO_TEXT ? above[i] : 0);
             NUMBER(kettle_steps(answer), above[i] % ((uint64_t)1 << 32));
         }
 }
@@ -99,7 +101,7 @@ static void assemblies(void)
     give_back(&odd);
 }
 
-/* steps of a run that was accepted, stopped and refused; bytes that were read, listed and printed, or not */
+/* steps of a run that was accepted, stopped and refused; bytes that were read, listed, printed and written as text, or not */
 static void runs_and_buffers(void)
 {
     struct machine m = machine(6, 0, 0, 0);
@@ -120,6 +122,13 @@ static void runs_and_buffers(void)
     give_back(&buffer);
     buffer = lend(29);
     NUMBER(kettle_bytes(list(&text, &buffer)), strlen("0000 001B RET\nwords 1 open 0\n"));
+    struct bytes words = lend(4);
+    NUMBER(kettle_bytes(text_of(&words, &buffer)), strlen("DBG\nDBG\n"));
+    NUMBER(kettle_index(text_of(&words, &buffer)), 0);
+    words.at[2] = 12;
+    NUMBER(kettle_bytes(text_of(&words, &buffer)), 0); /* the index is no count of bytes */
+    NUMBER(kettle_index(text_of(&words, &buffer)), 1);
+    give_back(&words);
     give_back(&buffer);
     give_back(&text);
     discard(&m);
@@ -139,7 +148,8 @@ static const struct {
     ROW(KETTLE_BAD_REGISTER), ROW(KETTLE_NO_ROOM), ROW(KETTLE_INVALID_REGISTER), ROW(KETTLE_INVALID_OPERANDS),
     ROW(KETTLE_INVALID_INSTRUCTION), ROW(KETTLE_INVALID_FORMAT), ROW(KETTLE_INVALID_IMMEDIATE), ROW(KETTLE_UNRESOLVED_LABEL),
     ROW(KETTLE_NOT_ASCII), ROW(KETTLE_TOO_MANY_LABELS), ROW(KETTLE_TOO_MANY_FIXUPS), ROW(KETTLE_PROGRAM_FULL),
-    ROW(KETTLE_FIELD_TOO_WIDE), ROW(KETTLE_BAD_BLOCK), ROW(KETTLE_NOT_DECODABLE), ROW(KETTLE_DEBUG), ROW(KETTLE_STOP)};
+    ROW(KETTLE_FIELD_TOO_WIDE), ROW(KETTLE_BAD_BLOCK), ROW(KETTLE_NOT_DECODABLE), ROW(KETTLE_NO_TEXT), ROW(KETTLE_DEBUG),
+    ROW(KETTLE_STOP)};
 
 enum { CODES = sizeof codes / sizeof *codes };
 
@@ -147,8 +157,8 @@ static void numbers(void)
 {
     during("the paper's numbers", 0, 0, 0);
     for (unsigned i = 0; i < CODES; i++)
-        NUMBER(codes[i].number, i < 33 ? i : 256 + i - 33);
-    NUMBER(CODES, 35);
+        NUMBER(codes[i].number, i < 34 ? i : 256 + i - 34);
+    NUMBER(CODES, 36);
     static const unsigned registers[] = {KETTLE_A, KETTLE_B, KETTLE_C, KETTLE_M, KETTLE_SP, KETTLE_PC, KETTLE_BP, KETTLE_FLAGS};
     for (unsigned i = 0; i < 8; i++)
         NUMBER(registers[i], i);
@@ -178,7 +188,7 @@ static void names_and_texts(void)
         for (unsigned k = 0; k < i; k++)
             CHECK(strcmp(text, kettle_code_text(codes[k].number)) != 0);
     }
-    for (unsigned number = 33; number < 65536; number++)
+    for (unsigned number = 34; number < 65536; number++)
         if (number != 256 && number != 257)
             no_code(number);
     no_code(65536);

@@ -94,6 +94,7 @@ uint64_t read_out(struct machine *m, size_t start, size_t size, struct bytes *bu
 uint64_t assemble(const struct bytes *text, int strict, struct bytes *words);
 uint64_t list(const struct bytes *text, struct bytes *out);
 uint64_t print(unsigned word, struct bytes *out);
+uint64_t text_of(const struct bytes *words, struct bytes *out);
 
 /* ---- the second reckoning: reference.c, interpreter.c ---------------------------------------------------------------------------- */
 
@@ -116,6 +117,19 @@ uint64_t ref_forget(struct machine *m);
 uint64_t ref_load(struct machine *m, const struct bytes *words);
 uint64_t ref_read(const struct machine *m, size_t start, size_t size, struct bytes *buffer);
 
+/* what is said of a word: printer.c */
+enum { SAID_MOST = 40 };
+struct said {
+    char text[SAID_MOST];
+    size_t len;
+};
+
+/* as the printer says it: 4, 5, 6, or 0 and the text */
+unsigned ref_print(struct said *s, unsigned word);
+/* of a word that says something: the same as the assembler reads it, MSL and MSR with the amount last, DBG for NOOP, and CJP for the
+ * word of a CJP to a register */
+void ref_line(struct said *s, unsigned word);
+
 /* ---- the groups ---------------------------------------------------------------------------------------------------------------- */
 
 void test_answers(void);
@@ -130,6 +144,7 @@ void test_limits(void);
 void test_meanings(void);
 void test_listings(void);
 void test_prints(void);
+void test_sources(void);
 void test_helpers(void);
 void test_records(void);
 void test_wrappers(void);

@@ -85,6 +85,7 @@ int main(void)
     group("texts at random: each word says what its line says", test_meanings);
     group("listings", test_listings);
     group("the text of every word, against a second printer", test_prints);
+    group("source for words, and the words of that source", test_sources);
     group("halted, failed, the rest protected; what hosts are told", test_helpers);
     group("records, beside step-backs", test_records);
     group("struct kettle_machine, beside the plain forms", test_wrappers);

@@ -14,6 +14,7 @@ uint32_t (*const version)(void) = kettle_version;
 uint64_t (*const assemble)(IN, uint8_t, OUT) = kettle_assemble;
 uint64_t (*const list)(IN, OUT) = kettle_list;
 uint64_t (*const print)(uint16_t, OUT) = kettle_print;
+uint64_t (*const text)(IN, OUT) = kettle_text;
 uint64_t (*const load)(OUT, OUT, OUT, IN, IN) = kettle_load;
 uint64_t (*const protect)(OUT, IN, IN, size_t, size_t) = kettle_protect;
 uint64_t (*const protect_rest)(OUT, IN, IN, size_t) = kettle_protect_rest;
@@ -40,8 +41,8 @@ const uint8_t *(*const machine_record)(M, size_t) = kettle_machine_record;
 static int answers(uint64_t answer)
 {
     unsigned code = kettle_code_of(answer);
-    return code == KETTLE_FETCH_UNMAPPED && kettle_steps(answer) == 0 && kettle_bytes(answer) == 0 && kettle_line(answer) == 0 &&
-           kettle_words(answer) == 0 && kettle_words_len(answer) == 0 && kettle_open_references(answer) == 0 &&
+    return code == KETTLE_FETCH_UNMAPPED && kettle_steps(answer) == 0 && kettle_bytes(answer) == 0 && kettle_index(answer) == 0 &&
+           kettle_line(answer) == 0 && kettle_words(answer) == 0 && kettle_words_len(answer) == 0 && kettle_open_references(answer) == 0 &&
            kettle_labels(answer) == 0 && kettle_code_name(code)[0] == 'K' && kettle_code_text(code)[0] != 0;
 }
 

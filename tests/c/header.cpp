@@ -39,6 +39,9 @@ static uint64_t texts()
     CHECK(kettle_open_references(made) == 0 && kettle_labels(made) == 0);
     CHECK(kettle_bytes(kettle_list(text.data(), text.size(), out.data(), out.size())) > 0 && out[0] == '0');
     CHECK(kettle_bytes(kettle_print(0x0501, out.data(), KETTLE_PRINT_MOST)) == 9 && !std::memcmp(out.data(), source, 9));
+    const uint64_t text_of = kettle_text(words, kettle_words_len(made), out.data(), out.size());
+    CHECK(code_of(text_of) == KETTLE_ACCEPTED && kettle_bytes(text_of) == text.size() + 1 && kettle_index(text_of) == 0);
+    CHECK(!std::memcmp(out.data(), source, text.size()) && out[text.size()] == 10);
     CHECK(!std::strcmp(kettle_code_name(KETTLE_STOP), "KETTLE_STOP") && kettle_code_text(KETTLE_STOP)[0] != 0);
     CHECK(kettle_version() == KETTLE_VERSION);
     return made;

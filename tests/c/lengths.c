@@ -25,6 +25,7 @@ static void nothing(void)
     NUMBER(read_out(&m, 0, 1, &none), KETTLE_NO_ROOM);
     NUMBER(assemble(&none, 1, &none), 0);
     NUMBER(list(&none, &none), KETTLE_NO_ROOM);
+    NUMBER(text_of(&none, &none), 0);
     discard(&m);
     m = machine(0, 0, 0, 0);
     give_back(&m.block);
@@ -33,6 +34,22 @@ static void nothing(void)
     NUMBER(forget(&m), KETTLE_BAD_BLOCK);
     discard(&m);
     give_back(&none);
+}
+
+/* Words that are too many, or of odd length, are not looked at, and of a long buffer only the text's bytes are written. */
+static void huge_sources(const struct bytes *too_many, const struct bytes *odd)
+{
+    struct bytes out = lend_huge(8, GIGABYTES), none = lend_huge(0, GIGABYTES), words = lend(4);
+    NUMBER(kettle_text(odd->at, odd->len, none.at, none.len), KETTLE_BAD_BLOCK);
+    NUMBER(kettle_text(too_many->at, too_many->len, none.at, none.len), KETTLE_TOO_LONG);
+    NUMBER(kettle_text(words.at, words.len, out.at, out.len), (uint64_t)8 << 16);
+    CHECK(memcmp(out.at, "DBG\nDBG\n", 8) == 0);
+    NUMBER(kettle_text(NULL, 0, none.at, none.len), 0);
+    words.at[3] = 1;
+    NUMBER(kettle_text(words.at, words.len, none.at, none.len), KETTLE_NO_TEXT | (uint64_t)1 << 16);
+    give_back(&out);
+    give_back(&none);
+    give_back(&words);
 }
 
 /* Memory past 65,535 and the journal past 4,096 records are never touched, devices only where they have bytes. */
@@ -83,6 +100,7 @@ static void huge_buffers(void)
     NUMBER(kettle_list(text.at, text.len, out.at, out.len), (uint64_t)18 << 16);
     CHECK(memcmp(out.at, "refused 19 line 0\n", 18) == 0);
     NUMBER(kettle_assemble(text.at, text.len, 1, odd.at, odd.len), KETTLE_BAD_BLOCK);
+    huge_sources(&too_many, &odd);
 
     struct bytes *all[] = {&block, &memory, &devices, &journal, &words, &too_many, &odd, &buffer, &no_block, &text, &out};
     for (size_t i = 0; i < sizeof all / sizeof *all; i++)
@@ -109,6 +127,10 @@ static void pages_to_read(void)
     NUMBER(run(&m, 0), KETTLE_ACCEPTED);
     read_only(&m.block);
     NUMBER(read_out(&m, 0, 64, &buffer), (uint64_t)64 << 16);
+    NUMBER(text_of(&words, &buffer), (uint64_t)16 << 16);
+    read_only(&buffer); /* now a refusal may not write there either */
+    NUMBER(kettle_text(words.at, words.len, buffer.at, 15), KETTLE_NO_ROOM);
+    NUMBER(kettle_text(words.at, 7, buffer.at, 64), KETTLE_BAD_BLOCK);
     discard(&m);
     give_back(&words);
     give_back(&buffer);

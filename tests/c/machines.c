@@ -249,11 +249,28 @@ uint64_t print(unsigned word, struct bytes *out)
     return answer;
 }
 
+/* as print; of 33 the index of a word that there is */
+uint64_t text_of(const struct bytes *words, struct bytes *out)
+{
+    if (out->len > 0)
+        memset(out->at, 0xcc, out->len);
+    uint64_t answer = kettle_text(words->at, words->len, out->at, out->len);
+    size_t n = kettle_bytes(answer);
+    CHECK(n <= out->len && all_are(out->at + n, out->len - n, 0xcc));
+    if (is_refusal(answer) && kettle_code_of(answer) == KETTLE_NO_TEXT)
+        CHECK(n == 0 && kettle_index(answer) < words->len / 2);
+    else if (kettle_code_of(answer) != KETTLE_ACCEPTED)
+        NUMBER(answer >> 16, 0);
+    else
+        CHECK(n == 0 || out->at[n - 1] == 10);
+    return answer;
+}
+
 void test_seen(void)
 {
     for (unsigned code = 0; code < 258; code++) {
         during("the code", (long)code, 0, 0);
-        bool reached = code <= KETTLE_NOT_DECODABLE || code == KETTLE_DEBUG || code == KETTLE_STOP;
+        bool reached = code <= KETTLE_NO_TEXT || code == KETTLE_DEBUG || code == KETTLE_STOP;
         if (code == KETTLE_INVALID_FORMAT || code == KETTLE_UNRESOLVED_LABEL)
             reached = false;
         CHECK(seen[code] == reached);

@@ -160,6 +160,27 @@ static void prints(void)
             sink += kettle_print((uint16_t)word, out, room);
 }
 
+static void set_word(size_t i, unsigned word)
+{
+    words[2 * i] = (uint8_t)word;
+    words[2 * i + 1] = (uint8_t)(word >> 8);
+}
+
+/* the source of each word alone; of as many as there can be, with every label; one without a text, too little room, too many */
+static void sources(void)
+{
+    for (unsigned word = 0; word < 65536; word++) {
+        set_word(0, word);
+        sink += kettle_text(words, 2, out, sizeof out) + kettle_text(words, 2, out, 3);
+    }
+    for (unsigned i = 0; i < KETTLE_WORDS_MOST; i++)
+        set_word(i, i < 1024 ? i << 6 | 6 : 0xff7a);
+    sink += kettle_text(words, 2 * KETTLE_WORDS_MOST, out, sizeof out) + kettle_text(words, 2 * KETTLE_WORDS_MOST, out, 100);
+    set_word(KETTLE_WORDS_MOST - 1, 0x0010);
+    sink += kettle_text(words, 2 * KETTLE_WORDS_MOST, out, sizeof out);
+    sink += kettle_text(words, 65536, out, sizeof out) + kettle_text(words, 65537, out, sizeof out) + kettle_text(words, 0, out, 0);
+}
+
 static void versions(void) { sink += kettle_version(); }
 
 /* ---- texts ----------------------------------------------------------------------------------------------------------------- */
@@ -264,6 +285,7 @@ int main(void)
         {"kettle_forget", stack_of(full, forgets), KETTLE_STACK_OTHER},
         {"kettle_read", stack_of(full, reads), KETTLE_STACK_OTHER},
         {"kettle_print", stack_of(NULL, prints), KETTLE_STACK_OTHER},
+        {"kettle_text", stack_of(NULL, sources), KETTLE_STACK_TEXT},
         {"kettle_version", stack_of(NULL, versions), KETTLE_STACK_OTHER},
     };
     int failed = 0;

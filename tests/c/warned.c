@@ -23,6 +23,7 @@ uint64_t ignored(const struct kettle_machine *m)
     kettle_assemble(T, 1, W);                      // unused-result
     kettle_list(T, out, sizeof out);               // unused-result
     kettle_print(0, out, sizeof out);              // unused-result
+    kettle_text(W, out, sizeof out);               // unused-result
     kettle_load(B, M, D, J, W);                    // unused-result
     kettle_protect(B, D, J, 0, 1);                 // unused-result
     kettle_protect_rest(B, D, J, 4);               // unused-result
@@ -53,6 +54,8 @@ static uint64_t short_texts(void)
     sum += kettle_list(text, 5, out, sizeof out);  // stringop-overread
     sum += kettle_list(T, out, 5);                 // stringop-overflow
     sum += kettle_print(0, out, 5);                // stringop-overflow
+    sum += kettle_text(words, 6, out, sizeof out); // stringop-overread
+    sum += kettle_text(W, out, 5);                 // stringop-overflow
     return sum;
 }
 

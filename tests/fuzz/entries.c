@@ -4,7 +4,7 @@
  * An input is a header of 10 bytes (three lengths, flags, a seed) and then calls, each a byte and its arguments; tests/fuzz/corpus
  * writes the same form from the stored scripts. Buffers are lent between pages that nothing may touch. After each call everything
  * is compared: with rules.h, and with the library itself (a run with single steps, a step with its step back, plain with strict
- * assembly, a listing with the words). Whatever differs aborts.
+ * assembly, a listing with the words, words with the words of their text). Whatever differs aborts.
  *
  * KETTLE_BLOCKS names the file that tests/fuzz/blocks wrote; KETTLE_COVERED one for what was reached.
  */
@@ -16,7 +16,9 @@ enum {
     RUN_MOST = 5000,    /* steps of a run; a program that ends before is also run without end */
     CLOSELY = 40,       /* of these so many one by one, by their rule */
     STEPS_MOST = 10000, /* steps of an input */
-    TEXT_MOST = 131200,
+    SOURCED_MOST = 70000, /* words of an input that source is made of */
+    LINES_CLOSELY = 1100, /* of a source text so many lines one by one: more than can have a label */
+    TEXT_MOST = 131200, /* of an input; that of words may be longer */
     WORDS_MOST = 65602,
     OUT_MOST = KETTLE_LISTING_MOST,
     BUFFER_MOST = 66047,
@@ -24,12 +26,12 @@ enum {
 };
 
 enum entry {
-    ASSEMBLE, LOAD, STEP, RUN, STEP_BACK, SET_REGISTER, PROTECT, DEVICE, FORGET, READ, LIST, PRINT, ENTRIES
+    ASSEMBLE, LOAD, STEP, RUN, STEP_BACK, SET_REGISTER, PROTECT, DEVICE, FORGET, READ, LIST, PRINT, TEXT, ENTRIES
 };
 
 static const char *const entry_names[ENTRIES] = {
     "kettle_assemble", "kettle_load", "kettle_step", "kettle_run", "kettle_step_back", "kettle_set_register",
-    "kettle_protect", "kettle_device", "kettle_forget", "kettle_read", "kettle_list", "kettle_print"
+    "kettle_protect", "kettle_device", "kettle_forget", "kettle_read", "kettle_list", "kettle_print", "kettle_text"
 };
 
 static struct lent block, memory, devices, journal, words, text, out, buffer;
@@ -49,7 +51,7 @@ static int low, null_for_none;
 __attribute__((used, section("__libfuzzer_extra_counters"))) static uint8_t state_counters[STATES];
 
 static uint64_t inputs, calls[ENTRIES], seen[ENTRIES][258], stepped[16][258], longest_run, most_back, longest_text, most_words,
-    most_labels, most_open, longest_listing, kinds[3];
+    most_labels, most_open, longest_listing, longest_source, kinds[3];
 
 static void reached(unsigned a, unsigned b, unsigned c, unsigned d)
 {
@@ -85,7 +87,7 @@ static void larger(uint64_t *most, uint64_t n)
 static uint64_t answered(enum entry e, uint64_t answer)
 {
     unsigned code = kettle_code_of(answer);
-    DEMAND(code <= KETTLE_NOT_DECODABLE || code == KETTLE_DEBUG || code == KETTLE_STOP);
+    DEMAND(code <= KETTLE_NO_TEXT || code == KETTLE_DEBUG || code == KETTLE_STOP);
     DEMAND(fenced(&block) && fenced(&memory) && fenced(&devices) && fenced(&journal));
     DEMAND(fenced(&words) && fenced(&text) && fenced(&out) && fenced(&buffer));
     calls[e]++;
@@ -119,9 +121,9 @@ static void report(void)
             (unsigned long long)kinds[2]);
     fprintf(file, "longest run %llu, most steps taken back at once %llu\n", (unsigned long long)longest_run,
             (unsigned long long)most_back);
-    fprintf(file, "longest text %llu, most words %llu, labels %llu, open references %llu, longest listing %llu\n",
+    fprintf(file, "longest text %llu, most words %llu, labels %llu, open references %llu, longest listing %llu, source %llu\n",
             (unsigned long long)longest_text, (unsigned long long)most_words, (unsigned long long)most_labels,
-            (unsigned long long)most_open, (unsigned long long)longest_listing);
+            (unsigned long long)most_open, (unsigned long long)longest_listing, (unsigned long long)longest_source);
     fprintf(file, "blocks %zu of %zu\n", blocks_reached, block_count);
     for (size_t i = 0; i < block_count; i++)
         if (!blocks[i].reached)
@@ -490,6 +492,118 @@ static uint64_t do_assemble(uint8_t strict, size_t words_len)
     return plainly;
 }
 
+/* ---- source for words ------------------------------------------------------------------------------------------------------ */
+
+/* The line of a word that names no label: what is printed of it, but for three kinds. Answers its length. */
+static size_t plain_line(unsigned word, char *line)
+{
+    size_t len = kettle_bytes(do_print(word, KETTLE_PRINT_MOST));
+    unsigned first, second;
+    memcpy(line, buffer.at, len);
+    line[len] = 0;
+    if (word == 0)
+        strcpy(line, "DBG");
+    if ((word & 31) == 21)
+        line[0] = 'C', line[1] = 'J'; /* JMP, of which the last letter stays */
+    char *numbers = strchr(line, '[');
+    if ((word & 15) == 2 && numbers && sscanf(numbers, "[#%u #%u]", &first, &second) == 2)
+        sprintf(numbers, "[#%u #%u]", second, first);
+    return strlen(line);
+}
+
+/* The text in `out`, line by line; past LINES_CLOSELY only where lines end. */
+static void each_line(const uint8_t *of, size_t count, size_t len, const uint8_t *used)
+{
+    size_t at = 0, n, to;
+    char line[64];
+    for (size_t i = 0; i < count; i++) {
+        unsigned word = kettle_word(of + 2 * i), kind = word & 15;
+        char *end = line;
+        if (i >= LINES_CLOSELY) {
+            uint8_t *close = (uint8_t *)memchr(out.at + at, '\n', len - at);
+            DEMAND(close);
+            at = (size_t)(close - out.at) + 1;
+            continue;
+        }
+        if (i < SOURCE_LABELS && used[i])
+            end += sprintf(end, "L%04X:\n", (unsigned)(2 * i));
+        if (has_label(word, count, &to))
+            end += sprintf(end, "%s L%04X", kind == 5 ? "CJP" : kind == 6 ? "JMP" : "CALL", (unsigned)(2 * to));
+        else
+            end += plain_line(word, end);
+        *end++ = '\n';
+        n = (size_t)(end - line);
+        DEMAND(len - at >= n && !memcmp(out.at + at, line, n));
+        at += n;
+    }
+    DEMAND(at == len);
+}
+
+/* The text in `out` assembles to these words, and strictly too but for 32; or it is 28, in the line that the rule says. */
+static void comes_back(const uint8_t *of, size_t count, size_t len, const uint8_t *used, unsigned labels)
+{
+    uint64_t full = full_line(of, count, used);
+    lend(&text, len, low);
+    memcpy(text.at, out.at, len);
+    uint64_t answer = do_assemble(1, 2 * count);
+    if (full) {
+        DEMAND(answer == (KETTLE_TOO_MANY_FIXUPS | full << 16));
+    } else {
+        DEMAND(answer == ((uint64_t)count << 16 | (uint64_t)labels << 48));
+        DEMAND(!memcmp(words.at, of, 2 * count));
+    }
+    reached(704, magnitude(count), magnitude(labels), full != 0);
+}
+
+/* Into as much room as is needed, into one byte less, and into what was asked for. What the text is, `out` has before and after. */
+static void in_rooms(const uint8_t *of, size_t of_len, uint64_t answer, size_t room)
+{
+    static uint8_t source[KETTLE_TEXT_MOST];
+    size_t len = kettle_bytes(answer), rooms[3] = {len, len ? len - 1 : 0, room};
+    memcpy(source, out.at, len);
+    memset(out.at, FRESH_BYTE, len);
+    for (int i = 0; i < 3; i++) {
+        lend_out(rooms[i]);
+        uint64_t again = answered(TEXT, kettle_text(of, of_len, BYTES(out)));
+        size_t n = rooms[i] < len ? 0 : len;
+        DEMAND(again == (rooms[i] < len ? KETTLE_NO_ROOM : answer) && !memcmp(out.at, source, n));
+        DEMAND(all(out.at + n, at_most(rooms[i] - n, 4096), FRESH_BYTE));
+        memset(out.at, FRESH_BYTE, n);
+    }
+}
+
+static size_t words_left; /* of this input */
+
+/* Source for words, by its rule; and the words of that source. */
+static void do_text(const uint8_t *given, size_t len, size_t room)
+{
+    static uint8_t of[WORDS_MOST + 1];
+    uint8_t used[SOURCE_LABELS];
+    if (len / 2 > words_left)
+        return;
+    words_left -= len / 2;
+    memcpy(of, given, len);
+    uint64_t rule = source_unfit(of, len);
+    lend(&words, len, low);
+    memcpy(words.at, of, len);
+    lend_out(rule ? room : OUT_MOST);
+    uint64_t answer = answered(TEXT, kettle_text(BYTES(words), BYTES(out)));
+    DEMAND(!memcmp(words.at, of, len));
+    reached(705, kettle_code_of(answer), magnitude(answer >> 16), magnitude(len));
+    if (rule) {
+        DEMAND(answer == rule && all(out.at, at_most(room, 4096), FRESH_BYTE));
+        return;
+    }
+    size_t made = kettle_bytes(answer);
+    DEMAND(kettle_code_of(answer) == 0 && made <= KETTLE_TEXT_MOST);
+    DEMAND(all(out.at + made, at_most(OUT_MOST - made, 4096), FRESH_BYTE));
+    unsigned labels = labels_of(of, len / 2, used);
+    each_line(of, len / 2, made, used);
+    comes_back(of, len / 2, made, used, labels);
+    in_rooms(of, len, answer, room);
+    larger(&longest_source, made);
+}
+
 /* ---- an input -------------------------------------------------------------------------------------------------------------- */
 
 static const uint8_t *input;
@@ -648,6 +762,23 @@ static void call(unsigned which)
         a = take(2);
         do_print((unsigned)a, take(1));
         break;
+    case 21:
+        a = at_most(take(3), OUT_MOST);
+        b = take(2);
+        given = take_bytes(&b);
+        do_text(given, b, a);
+        break;
+    case 22:
+        a = at_most(take(3), OUT_MOST);
+        b = at_most(take(3), WORDS_MOST);
+        for (size_t i = 0, word = take(2), more = take(2); i < b; i += 2, word += more)
+            put_word(bytes + i, (unsigned)word & 65535);
+        do_text(bytes, b, a);
+        break;
+    case 23:
+        a = at_most(take(3), OUT_MOST);
+        do_text(bytes, kettle_code_of(plainly) ? 0 : at_most(2 * kettle_words(plainly), WORDS_MOST), a);
+        break;
     default: break;
     }
 }
@@ -663,7 +794,7 @@ int LLVMFuzzerInitialize(int *argc, char ***argv)
     make_room(&devices, DEVICES_MOST);
     make_room(&journal, JOURNAL_MOST);
     make_room(&words, WORDS_MOST);
-    make_room(&text, TEXT_MOST);
+    make_room(&text, KETTLE_TEXT_MOST);
     make_room(&out, OUT_MOST);
     make_room(&buffer, BUFFER_MOST);
     if (getenv("KETTLE_BLOCKS"))
@@ -695,6 +826,7 @@ int LLVMFuzzerTestOneInput(const uint8_t *data, size_t size)
         lend(&out, 0, low);
     plainly = 0;
     steps_left = STEPS_MOST;
+    words_left = SOURCED_MOST;
     unsigned number = 0;
     while (left && number++ < 64)
         call((unsigned)take(1) & 31);

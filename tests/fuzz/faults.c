@@ -22,6 +22,7 @@ uint64_t __real_kettle_read(const uint8_t *, size_t, const uint8_t *, size_t, co
                             size_t, size_t, uint8_t *, size_t);
 uint64_t __real_kettle_list(const uint8_t *, size_t, uint8_t *, size_t);
 uint64_t __real_kettle_print(uint16_t, uint8_t *, size_t);
+uint64_t __real_kettle_text(const uint8_t *, size_t, uint8_t *, size_t);
 
 static int accepted(uint64_t a) { return kettle_code_of(a) == 0 || kettle_code_of(a) == KETTLE_DEBUG; }
 
@@ -129,5 +130,43 @@ uint64_t __wrap_kettle_print(uint16_t w, uint8_t *o, size_t ol)
         o[kettle_bytes(a)] = 0; /* a byte 0 at its end */
     if (FAULT == 23 && kettle_code_of(a) == 0 && o[0] == 'C' && o[1] == 'J')
         o[0] = 'J', o[1] = 'M'; /* not what the listing says */
+    return a;
+}
+
+static int is_digit(uint8_t byte) { return byte >= '0' && byte <= '9'; }
+
+/* a fault in an accepted text: 30 to 33 */
+static void mar(uint8_t *o, size_t n)
+{
+    size_t i;
+    for (i = 0; i + 3 < n; i++) {
+        if (FAULT == 30 && o[i] == 'L' && o[i + 4] >= 'A' && o[i + 4] <= 'F')
+            o[i + 4] |= 32; /* a label in small letters, on both its lines */
+        if (FAULT == 31 && o[i] == 'C' && o[i + 1] == 'J' && o[i + 4] >= 'A' && o[i + 4] != 'L')
+            o[i] = 'J', o[i + 1] = 'M'; /* JMP for a CJP to a register */
+        if (FAULT == 32 && o[i] == '[' && is_digit(o[i + 2]) && i + 7 < n && o[i + 3] == ' ' && o[i + 6] == ']') {
+            uint8_t first = o[i + 2];
+            o[i + 2] = o[i + 5], o[i + 5] = first; /* the amount first */
+        }
+        if (FAULT == 33 && o[i] == 'D' && o[i + 1] == 'B')
+            o[i + 2] = 'X';
+    }
+}
+
+uint64_t __wrap_kettle_text(const uint8_t *w, size_t wl, uint8_t *o, size_t ol)
+{
+    if (FAULT == 25 && wl > 2 * KETTLE_WORDS_MOST)
+        return KETTLE_TOO_LONG; /* 16 before 31 */
+    uint64_t a = __real_kettle_text(w, wl, o, ol);
+    if (FAULT == 26 && kettle_code_of(a) == KETTLE_NO_TEXT)
+        a += 1 << 16; /* the word after it */
+    if (FAULT == 27 && kettle_code_of(a) == KETTLE_NO_TEXT && ol < wl)
+        a = KETTLE_NO_ROOM; /* the wrong one of two */
+    if (FAULT == 28 && kettle_code_of(a) == KETTLE_NO_ROOM && ol)
+        o[0] = 'L'; /* a refused text is begun */
+    if (FAULT == 29 && kettle_code_of(a) == 0 && kettle_bytes(a) < ol)
+        o[kettle_bytes(a)] = 0; /* a byte 0 at its end */
+    if (kettle_code_of(a) == 0)
+        mar(o, kettle_bytes(a));
     return a;
 }

@@ -34,9 +34,9 @@ fuzz: fuzz-build
 	grep -v '^not reached' $(FUZZ)/covered
 
 # make fuzz-faults: each fault of tests/fuzz/faults.c must be found by the seeds alone.
-FAULTS := $(shell seq 24)
+FAULTS := $(shell seq 33)
 FAULTY := kettle_assemble kettle_load kettle_step kettle_run kettle_step_back kettle_set_register kettle_protect kettle_device kettle_read \
-    kettle_list kettle_print
+    kettle_list kettle_print kettle_text
 .PHONY: fuzz-faults
 fuzz-faults: $(FUZZ)/corpus $(FUZZ)/entries.o $(LIB)
 	@set -e; for n in $(FAULTS); do \

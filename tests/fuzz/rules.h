@@ -1,7 +1,8 @@
 /*
  * rules.h: the machine's rules over whole states, written from its description and from the Rust: when a state is valid, where a
- * byte is, what a step does, what each entry answers and leaves; and which line of a text is a CJP to a register. The step and that
- * line were written with our source in sight. The harness holds the library beside them.
+ * byte is, what a step does, what each entry answers and leaves; which line of a text is a CJP to a register; which words have a
+ * text, with which labels, and how many of its references wait at once. The step and the line of a CJP were written with our source
+ * in sight. The harness holds the library beside them.
  */
 #ifndef RULES_H
 #define RULES_H
@@ -182,6 +183,90 @@ static uint64_t register_cjp_line(const uint8_t *text, size_t len)
             to++;
         if (is_register_cjp(text + from, to - from))
             return line;
+    }
+    return 0;
+}
+
+/* ---- source for words ------------------------------------------------------------------------------------------------------ */
+
+enum { SOURCE_LABELS = 1024, WAITING_MOST = 512 };
+
+/* the bits that a word of this kind can have; -1 for one that says no instruction */
+static long usable_bits(unsigned word)
+{
+    switch (word & 15) {
+    case 0: return 0;
+    case 1: return word & 0x80 ? 0x7ff : 0xffff;
+    case 3: return word & 0x200 ? 0x1fff : 0xffff;
+    case 5:
+    case 6: return word & 0x10 ? 0xff : 0xffff;
+    case 7: return (word >> 7 & 7) > 5 ? -1 : word & 0x400 ? 0x3fff : 0xffff;
+    case 9: return 0x3ff;
+    case 10: return (word >> 7 & 7) > 6 ? -1 : 0xffff;
+    case 11: return word & 0x10 ? 0x1f : 0xffff; /* RET, which has no address in a text */
+    case 2:
+    case 4:
+    case 8: return 0xffff;
+    default: return -1;
+    }
+}
+
+static int has_text(unsigned word)
+{
+    long bits = usable_bits(word);
+    return bits >= 0 && (word & ~(unsigned)bits) == 0;
+}
+
+/* 31, 16 and 33, with its index; else 0 */
+static uint64_t source_unfit(const uint8_t *words, size_t len)
+{
+    if (len % 2)
+        return KETTLE_BAD_BLOCK;
+    if (len / 2 > KETTLE_WORDS_MOST)
+        return KETTLE_TOO_LONG;
+    for (size_t i = 0; i < len / 2; i++)
+        if (!has_text(kettle_word(words + 2 * i)))
+            return KETTLE_NO_TEXT | (uint64_t)i << 16;
+    return 0;
+}
+
+/* Is it a jump or call to a number that has a label, in a program of so many words? The label's word beside it. */
+static int has_label(unsigned word, size_t count, size_t *at)
+{
+    unsigned kind = word & 31, address = word >> 5;
+    *at = address / 2;
+    return (kind == 5 || kind == 6 || kind == 11) && address % 2 == 0 && *at < count;
+}
+
+/* which words have a label line before them; how many */
+static unsigned labels_of(const uint8_t *words, size_t count, uint8_t used[SOURCE_LABELS])
+{
+    unsigned n = 0;
+    size_t at;
+    memset(used, 0, SOURCE_LABELS);
+    for (size_t i = 0; i < count; i++)
+        if (has_label(kettle_word(words + 2 * i), count, &at) && !used[at])
+            used[at] = 1, n++;
+    return n;
+}
+
+/* the line of the text that finds 512 references waiting, from 1; 0 for none */
+static uint64_t full_line(const uint8_t *words, size_t count, const uint8_t used[SOURCE_LABELS])
+{
+    static unsigned waits[SOURCE_LABELS];
+    unsigned waiting = 0;
+    uint64_t line = 0;
+    size_t at;
+    memset(waits, 0, sizeof waits);
+    for (size_t i = 0; i < count; i++, line++) {
+        if (i < SOURCE_LABELS && used[i])
+            line++, waiting -= waits[i];
+        if (!has_label(kettle_word(words + 2 * i), count, &at) || at <= i)
+            continue;
+        if (waiting == WAITING_MOST)
+            return line + 1;
+        waiting++;
+        waits[at]++;
     }
     return 0;
 }

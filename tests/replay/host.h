@@ -48,11 +48,17 @@ command do_set, do_protect, do_device, do_load, do_loadn, do_read, do_step, do_r
 command do_byte, do_word, do_put, do_putw;
 /* in texts.c */
 command do_asm, do_asmn, do_listing, do_print, do_decode;
+/* in sources.c */
+command do_text, do_textn;
 
 /* `ok` or `no N`; what stands above the code, where nothing should, is shown too */
 void say_answer(struct out *o, uint64_t answer);
 
 void write_word(uint8_t *bytes, uint16_t w);
+
+/* The words that a line ends with, and those that it says as COUNT and W; to be returned. 0 where there are no such fields. */
+int lend_list(struct fields *f, struct lent *words);
+int lend_copies(struct fields *f, struct lent *words);
 
 /* the arguments that entries begin with */
 #define LENT(b) (b).bytes, (b).len

@@ -88,35 +88,45 @@ static size_t fields_left(struct fields f)
     return n;
 }
 
-enum outcome do_load(struct job *job)
+int lend_list(struct fields *f, struct lent *words)
 {
-    size_t i, count = fields_left(job->fields);
-    struct lent words;
+    size_t i, count = fields_left(*f);
     if (count > WORDS_MOST)
-        return UNREADABLE;
-    words = lend(2 * count, 0);
+        return 0;
+    *words = lend(2 * count, 0);
     for (i = 0; i < count; i++) {
         uint16_t w;
-        if (!word(&job->fields, &w)) {
-            lent_return(&words);
-            return UNREADABLE;
+        if (!word(f, &w)) {
+            lent_return(words);
+            return 0;
         }
-        write_word(words.bytes + 2 * i, w);
+        write_word(words->bytes + 2 * i, w);
     }
-    return loaded(job, &words);
+    return 1;
+}
+
+int lend_copies(struct fields *f, struct lent *words)
+{
+    uint64_t i, count;
+    uint16_t w;
+    if (!number(f, WORDS_MOST, &count) || !word(f, &w))
+        return 0;
+    *words = lend((size_t)(2 * count), 0);
+    for (i = 0; i < count; i++)
+        write_word(words->bytes + 2 * i, w);
+    return 1;
+}
+
+enum outcome do_load(struct job *job)
+{
+    struct lent words;
+    return lend_list(&job->fields, &words) ? loaded(job, &words) : UNREADABLE;
 }
 
 enum outcome do_loadn(struct job *job)
 {
-    uint64_t i, count;
-    uint16_t w;
     struct lent words;
-    if (!number(&job->fields, WORDS_MOST, &count) || !word(&job->fields, &w))
-        return UNREADABLE;
-    words = lend((size_t)(2 * count), 0);
-    for (i = 0; i < count; i++)
-        write_word(words.bytes + 2 * i, w);
-    return loaded(job, &words);
+    return lend_copies(&job->fields, &words) ? loaded(job, &words) : UNREADABLE;
 }
 
 enum outcome do_read(struct job *job)

@@ -3,7 +3,7 @@ REPLAY_SEED ?= 1
 REPLAY_SIZE ?= 1
 
 REPLAY_FLAGS = -std=c99 -Wall -Wextra -pedantic -Wconversion -Iinclude
-REPLAY_SOURCES = $(addprefix tests/replay/,through_c.c host.c machine.c bytes.c texts.c fields.c lent.c)
+REPLAY_SOURCES = $(addprefix tests/replay/,through_c.c host.c machine.c bytes.c texts.c sources.c fields.c lent.c)
 REPLAY_HEADERS = $(addprefix tests/replay/,host.h fields.h lent.h) include/seamkettle.h
 
 target/c/through_c: $(REPLAY_SOURCES) $(REPLAY_HEADERS) $(LIB)

@@ -41,6 +41,8 @@ static const struct row rows[] = {
     {"asm", do_asm, "kettle_assemble"},
     {"asmn", do_asmn, "kettle_assemble"},
     {"listing", do_listing, "kettle_list"},
+    {"text", do_text, "kettle_text"},
+    {"textn", do_textn, "kettle_text"},
     {"print", do_print, "kettle_print"},
     {"decode", do_decode, "kettle_print"},
     {"byte", do_byte, NULL},
@@ -56,7 +58,7 @@ enum { ROWS = sizeof rows / sizeof rows[0] };
 
 static const char *const entries[] = {
     "kettle_assemble", "kettle_load", "kettle_step", "kettle_run", "kettle_step_back", "kettle_set_register",
-    "kettle_protect", "kettle_device", "kettle_forget", "kettle_read", "kettle_list", "kettle_print",
+    "kettle_protect", "kettle_device", "kettle_forget", "kettle_read", "kettle_list", "kettle_print", "kettle_text",
 };
 
 static const char *const reasons[OUTCOMES] = {

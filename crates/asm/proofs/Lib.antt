@@ -21,3 +21,7 @@ pub mod Refusals
 pub mod Refused
 pub mod Plain
 pub mod Exact
+pub mod Lines
+pub mod Named
+pub mod Room
+pub mod Sayable

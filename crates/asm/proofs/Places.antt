@@ -28,7 +28,7 @@ nameEnd (label place size) = place + size
 nameEnd (says i) = 0
 nameEnd (refers r place size) = place + size
 
-abbrev toldEnd : Told Item → ℕ
+abbrev pub toldEnd : Told Item → ℕ
 toldEnd (is i) = nameEnd i
 toldEnd (no n) = 0
 
@@ -55,7 +55,7 @@ trimmed-within at (x ∷ xs) = go (eqb x 59) (ltb (length (nameIn (x ∷ xs))) (
     go false true = omega (arith, end-le (λ y. eqb y 58) (x ∷ xs))
     go false false = said-within at (x ∷ xs) (parse (tokens (x ∷ xs))) refl
 
-read-within : (line : List ℕ) → toldEnd (read line) ≤ length line
+pub read-within : (line : List ℕ) → toldEnd (read line) ≤ length line
 unfolding read
 read-within line =
     let a = trimmed-within (run isBlank line) (dropEnd isBlank (dropFront isBlank line)) in

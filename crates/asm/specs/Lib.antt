@@ -5,5 +5,6 @@ pub mod Work
 pub mod Views
 pub mod Assemble
 pub mod Meaning
+pub mod Named
 pub mod Strict
 pub mod Marked

@@ -5,7 +5,7 @@ use Prim.Native.Nat.{ℕ}
 use lib.ListN.{getD}
 use Rattle.base.specs.Numbers.{numberOf, answerNumber}
 use Rattle.base.specs.declared.refusals.Refusal.{Refusal}
-use Rattle.base.specs.declared.refusals.Refusal.the-variants.{BadState, FetchUnmapped, AddressOverflow, BadOpcode, BadCompare, BadArith, ArithOverflow, DivideByZero, PcOverflow, NothingToUndo, BadJournal, RangeOverflow, Overlap, TableFull, WriteFailed, TooLong, NoDeviceRoom, BadRegister, NoRoom, InvalidRegister, InvalidOperands, InvalidInstruction, InvalidFormat, InvalidImmediate, UnresolvedLabel, NotAscii, TooManyLabels, TooManyFixups, ProgramFull, FieldTooWide, BadBlock, NotDecodable}
+use Rattle.base.specs.declared.refusals.Refusal.the-variants.{BadState, FetchUnmapped, AddressOverflow, BadOpcode, BadCompare, BadArith, ArithOverflow, DivideByZero, PcOverflow, NothingToUndo, BadJournal, RangeOverflow, Overlap, TableFull, WriteFailed, TooLong, NoDeviceRoom, BadRegister, NoRoom, InvalidRegister, InvalidOperands, InvalidInstruction, InvalidFormat, InvalidImmediate, UnresolvedLabel, NotAscii, TooManyLabels, TooManyFixups, ProgramFull, FieldTooWide, BadBlock, NotDecodable, NoText}
 use Rattle.base.specs.declared.refusals.Answer.{Answer}
 use Rattle.base.specs.declared.refusals.Answer.the-variants.{Accepted, Refused}
 
@@ -17,7 +17,7 @@ refusals =
     Overlap ∷ TableFull ∷ WriteFailed ∷ TooLong ∷ NoDeviceRoom ∷ BadRegister ∷
     NoRoom ∷ InvalidRegister ∷ InvalidOperands ∷ InvalidInstruction ∷ InvalidFormat ∷ InvalidImmediate ∷
     UnresolvedLabel ∷ NotAscii ∷ TooManyLabels ∷ TooManyFixups ∷ ProgramFull ∷ FieldTooWide ∷
-    BadBlock ∷ NotDecodable ∷ []
+    BadBlock ∷ NotDecodable ∷ NoText ∷ []
 
 -- the answer of a number
 answers : List Answer
@@ -57,6 +57,7 @@ found ProgramFull = refl
 found FieldTooWide = refl
 found BadBlock = refl
 found NotDecodable = refl
+found NoText = refl
 
 back : (a : Answer) → getD answers (answerNumber a) Accepted ≡ a
 unfolding answers

@@ -1,7 +1,7 @@
 -- The refusals' numbers, document 01's to 30 and document 02's from 31 on: the one place that says which refusal has which.
 use Prim.Native.Nat.{ℕ}
 use Rattle.base.specs.declared.refusals.Refusal.{Refusal}
-use Rattle.base.specs.declared.refusals.Refusal.the-variants.{BadState, FetchUnmapped, AddressOverflow, BadOpcode, BadCompare, BadArith, ArithOverflow, DivideByZero, PcOverflow, NothingToUndo, BadJournal, RangeOverflow, Overlap, TableFull, WriteFailed, TooLong, NoDeviceRoom, BadRegister, NoRoom, InvalidRegister, InvalidOperands, InvalidInstruction, InvalidFormat, InvalidImmediate, UnresolvedLabel, NotAscii, TooManyLabels, TooManyFixups, ProgramFull, FieldTooWide, BadBlock, NotDecodable}
+use Rattle.base.specs.declared.refusals.Refusal.the-variants.{BadState, FetchUnmapped, AddressOverflow, BadOpcode, BadCompare, BadArith, ArithOverflow, DivideByZero, PcOverflow, NothingToUndo, BadJournal, RangeOverflow, Overlap, TableFull, WriteFailed, TooLong, NoDeviceRoom, BadRegister, NoRoom, InvalidRegister, InvalidOperands, InvalidInstruction, InvalidFormat, InvalidImmediate, UnresolvedLabel, NotAscii, TooManyLabels, TooManyFixups, ProgramFull, FieldTooWide, BadBlock, NotDecodable, NoText}
 use Rattle.base.specs.declared.refusals.Answer.{Answer}
 use Rattle.base.specs.declared.refusals.Answer.the-variants.{Accepted, Refused}
 
@@ -38,6 +38,7 @@ numberOf ProgramFull = 29
 numberOf FieldTooWide = 30
 numberOf BadBlock = 31
 numberOf NotDecodable = 32
+numberOf NoText = 33
 
 -- 0 where an entry accepts
 abbrev pub answerNumber : Answer → ℕ

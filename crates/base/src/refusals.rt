@@ -35,6 +35,7 @@ pub enum Refusal {
     FieldTooWide,
     BadBlock,
     NotDecodable,
+    NoText,
 }
 
 // What an entry that hands back nothing but its verdict answers.
@@ -80,5 +81,6 @@ pub fn number(r: Refusal) -> u8
         Refusal::FieldTooWide => 30,
         Refusal::BadBlock => 31,
         Refusal::NotDecodable => 32,
+        Refusal::NoText => 33,
     }
 }

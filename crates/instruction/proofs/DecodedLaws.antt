@@ -45,7 +45,7 @@ field-within w at width = lt-ltb (fieldOf w at width) (2 ^ width) (field-fits w 
 shift-within : (w : ℕ) → (within 3 (fieldOf w 7 3) && within 5 (fieldOf w 11 5)) ≡ true
 shift-within w = rw (field-within w 7 3, field-within w 11 5)
 
-operand-within : (w at width : ℕ) → operandFits width (operandAt w at width) ≡ true
+pub operand-within : (w at width : ℕ) → operandFits width (operandAt w at width) ≡ true
 operand-within w at width = go (bitAt w at)
   where
     go : (b : Bool) → operandFits width (cond b (Reg (registerAt w (at + 1))) (Imm (fieldOf w (at + 1) width))) ≡ true

@@ -4,3 +4,5 @@ pub mod DecodedLaws
 pub mod OpcodeLaws
 pub mod RoundTrip
 pub mod AnswerLaws
+pub mod EditionLaws
+pub mod MaskLaws

@@ -36,7 +36,7 @@ bit-back true = refl
 bit-back false = refl
 
 -- the operand that stands at the top of a word
-operand-back : (at width under : ℕ) (o : Operand) → under < 2 ^ at → 3 ≤ width → operandFits width o ≡ true
+pub operand-back : (at width under : ℕ) (o : Operand) → under < 2 ^ at → 3 ≤ width → operandFits width o ≡ true
     → operandAt (under + placeOf (mode o) at 1 + placeOf (value o) (at + 1) width) at width ≡ o
 operand-back at width under (Reg r) l h f =
     let w : ℕ = under + placeOf 1 at 1 + placeOf (registerCode r) (at + 1) width in
@@ -55,7 +55,7 @@ operand-back at width under (Imm n) l h f =
     rw (m, v)
 
 -- the arm that the low four bits pick
-low-bits : (w n : ℕ) → fieldOf w 0 4 ≡ n → decode w ≡ arm w n
+pub low-bits : (w n : ℕ) → fieldOf w 0 4 ≡ n → decode w ≡ arm w n
 unfolding decode
 low-bits w n e = ap (arm w) e
 

@@ -1,7 +1,7 @@
--- A field fits where it does not exceed its width in the table; and which form no word says.
+-- A field fits where it does not exceed its width in the table; which form no word says, and which instruction no line says.
 use Prim.Native.Nat.{ℕ, _^_}
-use mathlib.Core.Bool.{Bool, true, not, _&&_}
-use lib.Dec.{ltb}
+use mathlib.Core.Bool.{Bool, true, false, not, _&&_}
+use lib.Dec.{ltb, eqb}
 use Rattle.instruction.specs.Decode.{jumpsAlways}
 use Rattle.instruction.specs.declared.Operand.{Operand}
 use Rattle.instruction.specs.declared.Operand.the-variants.{Reg, Imm}
@@ -44,3 +44,23 @@ decodable (LdbStb r a store shift) = true
 decodable (Cpy s t) = true
 decodable (ArithRegReg d a b k) = true
 decodable (CallRet ret address) = true
+
+-- RET takes no operand
+abbrev pub plainReturn : Bool → ℕ → Bool
+plainReturn true address = eqb address 0
+plainReturn false address = true
+
+-- no line says a return with an address; every other instruction whose fields fit is one that a line says
+abbrev pub sayable : Instruction → Bool
+sayable Noop = true
+sayable (Mov d o) = true
+sayable (MovShift r amount left v) = true
+sayable (Arith d o k) = true
+sayable (LdrStr r a store shift) = true
+sayable (CondJmp o) = true
+sayable (Jmp o) = true
+sayable (Cmp r o k) = true
+sayable (LdbStb r a store shift) = true
+sayable (Cpy s t) = true
+sayable (ArithRegReg d a b k) = true
+sayable (CallRet ret address) = plainReturn ret address

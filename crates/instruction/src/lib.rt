@@ -1,6 +1,7 @@
 // The instructions: what a word says, and the word of an instruction.
 mod codes;
 mod decoder;
+mod editions;
 mod encoder;
 mod forms;
 mod widths;
@@ -16,8 +17,10 @@ pub use decoder::decode;
 pub use decoder::jumps_always;
 pub use decoder::operand_at;
 pub use decoder::register_at;
+pub use editions::decode_in;
 pub use encoder::encode;
 pub use forms::decodable;
+pub use forms::sayable;
 pub use widths::fits;
 
 pub enum Register {
@@ -88,6 +91,13 @@ pub enum Instruction {
     Cmp(Register, Operand, CompareOp),
     // return (else call), address
     CallRet(bool, u16),
+}
+
+// Document 02 names a second edition of the instruction set. Machine and listing go by the first; source text for words goes by the
+// second, because a line can say what the first edition's decoder does not: CJP to a register.
+pub enum Edition {
+    First,
+    Second,
 }
 
 // What decoding a word answers.

@@ -1,39 +1,22 @@
--- Every byte of a listing is below 128: texts are, and a hex digit is at most 70. Assumes nothing.
+-- Every byte of a listing is below 128: texts are, and digits. Assumes nothing.
 use mathlib.Core.Path.{_≡_, refl}
-use mathlib.Core.Bool.{Bool, true, false}
+use mathlib.Core.Bool.{true}
 use mathlib.Core.List.{List, [], _∷_}
-use Prim.Native.Nat.{ℕ, _+_, _/_, _%_, _<_}
-use native.Mathlib.Omega.{arith}
-use borrow.Author.Tests.{lt-ltb}
-use lib.Dec.{ltb}
+use Prim.Native.Nat.{ℕ, _+_}
 use lib.ListN.{length}
 use Rattle.base.specs.Bytes.{bytes}
-use Rattle.base.specs.Choice.{cond}
 use Rattle.base.specs.Told.{Told, is, no}
+use Rattle.instruction.specs.declared.Edition.the-variants.{First}
 use Rattle.instruction.specs.declared.Instruction.{Instruction}
 use Rattle.instruction.specs.Decode.{decode}
-use Rattle.printer.proofs.AsciiLaws.{ascii, ascii-append, digits-ascii, text-ascii}
+use Rattle.printer.proofs.AsciiLaws.{ascii, ascii-append, text-ascii}
 use Rattle.asm.specs.Assemble.{Outcome, accepted, refused}
-use Rattle.lister.specs.Listing.{hexDigit, hex, decimal, textOf, line, linesFrom, twoNumbers, totals, refusal, shown, outcome, listing}
-
-digit-ascii : (n : ℕ) → ltb (hexDigit (n % 16)) 128 ≡ true
-digit-ascii n = go (ltb (n % 16) 10)
-  where
-    go : (t : Bool) → ltb (cond t (48 + n % 16) (55 + n % 16)) 128 ≡ true
-    go true = let h : 48 + n % 16 < 128 = omega arith in lt-ltb _ _ h
-    go false = let h : 55 + n % 16 < 128 = omega arith in lt-ltb _ _ h
-
-hex-ascii : (n : ℕ) → ascii (hex n) ≡ true
-unfolding hex ascii
-hex-ascii n = rw (digit-ascii (n / 4096), digit-ascii (n / 256), digit-ascii (n / 16), digit-ascii n)
-
-decimal-ascii : (n : ℕ) → ascii (decimal n) ≡ true
-unfolding decimal
-decimal-ascii n = digits-ascii 20 n
+use Rattle.pen.proofs.NumberLaws.{hex-ascii, decimal-ascii}
+use Rattle.lister.specs.Listing.{textOf, line, linesFrom, twoNumbers, totals, refusal, shown, outcome, listing}
 
 told-ascii : (d : Told Instruction) → ascii (textOf d) ≡ true
 unfolding ascii
-told-ascii (is i) = text-ascii i
+told-ascii (is i) = text-ascii First i
 told-ascii (no n) = refl
 
 line-ascii : (i w : ℕ) → ascii (line i w) ≡ true

@@ -1,6 +1,6 @@
 -- What listing answers and leaves, by whether the listing fits; and the listing's length, which is at most the sum of its parts'
 -- bounds: 37 bytes for each of at most 32,767 words, and 53 for the totals. Assumes nothing.
-use mathlib.Core.Path.{_≡_, refl}
+use mathlib.Core.Path.{_≡_}
 use mathlib.Core.List.{List, [], _∷_}
 use Prim.Native.Nat.{ℕ, _+_, _*_, _≤_, _<_, zero-le}
 use native.Mathlib.Omega.{arith}
@@ -8,13 +8,14 @@ use borrow.Author.Tests.{le-leb, lt-leb}
 use lib.ListN.{length, length-append}
 use Rattle.base.specs.Bytes.{bytes}
 use Rattle.base.specs.Told.{Told, is, no}
+use Rattle.instruction.specs.declared.Edition.the-variants.{First}
 use Rattle.instruction.specs.declared.Instruction.{Instruction}
 use Rattle.instruction.specs.Decode.{decode}
 use Rattle.printer.specs.Print.{placed}
-use Rattle.printer.proofs.DecimalLaws.{digits-length}
 use Rattle.printer.proofs.Laws.{text-length}
 use Rattle.asm.specs.Assemble.{Outcome, accepted, refused, wordsOf}
-use Rattle.lister.specs.Listing.{hex, decimal, textOf, line, linesFrom, twoNumbers, totals, refusal, shown, outcome, listing, listed, listedBuffer}
+use Rattle.pen.proofs.NumberLaws.{hex-length, decimal-length}
+use Rattle.lister.specs.Listing.{textOf, line, linesFrom, twoNumbers, totals, refusal, shown, outcome, listing, listed, listedBuffer}
 
 module _ (source : List ℕ) where
   pub listed-fits : (room : ℕ) → length (listing source) ≤ room → listed source room ≡ is (length (listing source))
@@ -35,16 +36,8 @@ module _ (source : List ℕ) where
 
 -- ---- lengths
 
-hex-length : (n : ℕ) → length (hex n) ≡ 4
-unfolding hex
-hex-length n = refl
-
-decimal-length : (n : ℕ) → length (decimal n) ≤ 20
-unfolding decimal
-decimal-length n = digits-length 20 n
-
 pub told-length : (d : Told Instruction) → length (textOf d) ≤ 26
-told-length (is i) = text-length i
+told-length (is i) = text-length First i
 told-length (no n) = zero-le
 
 pub line-length : (i w : ℕ) → length (line i w) ≤ 37

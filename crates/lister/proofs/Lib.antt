@@ -1,11 +1,7 @@
-pub mod PenLaws
-pub mod NumberLaws
 pub mod LineLaws
-pub mod TextLaws
 pub mod Laws
 pub mod ShownLaws
 pub mod AnswerLaws
 pub mod AsciiLaws
 pub mod Said
 pub mod Example
-pub mod NameLaws

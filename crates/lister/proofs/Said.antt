@@ -8,6 +8,7 @@ use lib.Dec.{leb}
 use lib.ListN.{length}
 use Rattle.base.specs.Choice.{cond}
 use Rattle.base.specs.Told.{is}
+use Rattle.instruction.specs.declared.Edition.the-variants.{First}
 use Rattle.instruction.specs.declared.Instruction.the-variants.{Noop}
 use Rattle.instruction.specs.Decode.{decode}
 use Rattle.instruction.proofs.RoundTrip.{round-trip}
@@ -35,8 +36,8 @@ texts-meant : (ms : List Meant) (ws : List ℕ) → AllSay ms ws → HaveTexts w
 texts-meant [] [] a = tt
 texts-meant [] (w ∷ ws) a = absurd a
 texts-meant (m ∷ ms) [] a = absurd a
-texts-meant (instruction i ∷ ms) (w ∷ ws) a = ((i, (a .0, text-some i)), texts-meant ms ws (a .1))
-texts-meant (never ∷ ms) (w ∷ ws) a = ((Noop, (ap decode (a .0) ∙ zero-decodes, text-some Noop)), texts-meant ms ws (a .1))
+texts-meant (instruction i ∷ ms) (w ∷ ws) a = ((i, (a .0, text-some First i)), texts-meant ms ws (a .1))
+texts-meant (never ∷ ms) (w ∷ ws) a = ((Noop, (ap decode (a .0) ∙ zero-decodes, text-some First Noop)), texts-meant ms ws (a .1))
 
 -- a text that is listed was short enough, and assembled
 assembles : (source : List ℕ) (w : Work) → outcome source ≡ accepted w → assemble (task true source 32767 1024) ≡ accepted w

@@ -1,8 +1,8 @@
 -- 01, "Listing, whole": what the listing program prints of a text, byte for byte. Every line ends with byte 10.
-use Prim.Native.Nat.{ℕ, _+_, _/_, _%_}
+use Prim.Native.Nat.{ℕ, _+_}
 use mathlib.Core.Bool.{true}
 use mathlib.Core.List.{List, [], _∷_, _++_}
-use lib.Dec.{ltb, leb}
+use lib.Dec.{leb}
 use lib.ListN.{length}
 use Rattle.base.specs.Bytes.{bytes}
 use Rattle.base.specs.Choice.{cond}
@@ -10,24 +10,11 @@ use Rattle.base.specs.Told.{Told, is, no}
 use Rattle.base.specs.Words.{doubled}
 use Rattle.instruction.specs.declared.Instruction.{Instruction}
 use Rattle.instruction.specs.Decode.{decode}
-use Rattle.printer.specs.Text.{text, digits}
+use Rattle.printer.specs.Text.{text}
 use Rattle.printer.specs.Print.{placed}
+use Rattle.pen.specs.Numbers.{hex, decimal}
 use Rattle.asm.specs.Work.{task}
 use Rattle.asm.specs.Assemble.{Outcome, accepted, refused, assemble}
-
--- ---- numbers
-
--- 0 to 9, then A to F
-abbrev pub hexDigit : ℕ → ℕ
-hexDigit d = cond (ltb d 10) (48 + d) (55 + d)
-
--- the last four digits to base sixteen
-unfoldable pub hex : ℕ → List ℕ
-hex n = hexDigit (n / 4096 % 16) ∷ hexDigit (n / 256 % 16) ∷ hexDigit (n / 16 % 16) ∷ hexDigit (n % 16) ∷ []
-
--- a number of 64 bits has at most twenty digits
-unfoldable pub decimal : ℕ → List ℕ
-decimal n = digits 20 n
 
 -- ---- lines
 

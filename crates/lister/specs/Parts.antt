@@ -4,17 +4,10 @@ use mathlib.Core.Path.{_≡_}
 use mathlib.Core.List.{List, _++_}
 use lib.ListN.{length, take}
 use Rattle.base.specs.Numbers.{numberOf}
-use Rattle.printer.specs.declared.Printed.{Printed}
-use Rattle.printer.specs.declared.Printed.the-variants.{Next, Refused}
 use Rattle.asm.specs.declared.Assembled.{Assembled}
 use Rattle.asm.specs.declared.Assembled.the-variants as Assembled
 use Rattle.asm.specs.Assemble.{Outcome, wordsOf, report, reported}
 use Rattle.lister.specs.Listing.{linesFrom, totals, refusal}
-
--- how long a text is that was printed from position 0 on
-abbrev pub sizeOf : Printed → ℕ
-sizeOf (Next n) = n
-sizeOf (Refused r) = 0
 
 -- how many words an answer of the assembler speaks of
 abbrev pub wordCount : Assembled → ℕ

@@ -15,7 +15,8 @@ use Rattle.printer.specs.Text.{text}
 use Rattle.asm.specs.Work.{Work}
 use Rattle.asm.specs.Assemble.{accepted}
 use Rattle.asm.specs.Meaning.{Meant, instruction, never, meaning, wordOf, nevers}
-use Rattle.lister.specs.Listing.{hex, totals, outcome, listing}
+use Rattle.pen.specs.Numbers.{hex}
+use Rattle.lister.specs.Listing.{totals, outcome, listing}
 
 abbrev pub meantText : Meant → List ℕ
 meantText (instruction i) = text i

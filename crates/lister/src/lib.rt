@@ -4,7 +4,5 @@
 mod decoding;
 mod lines;
 mod listing;
-mod numbers;
-mod writing;
 
 pub use listing::list;

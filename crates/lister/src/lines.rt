@@ -1,16 +1,16 @@
 // The lines of a listing, each with its byte 10.
 use crate::decoding::put_word_text;
-use crate::numbers::decimal;
-use crate::numbers::hex;
-use crate::writing::put;
-use crate::writing::put_all;
 use base::InstructionIndex;
 use base::byte_address;
+use pen::decimal;
+use pen::hex;
+use pen::put;
+use pen::put_all;
 ghost use mathlib.Core.Path.{_≡_};
 ghost use Prim.Native.Nat.{_≤_};
 ghost use lib.ListN.{length};
 ghost use Rattle.lister.specs.Listing.{line, linesFrom, twoNumbers, totals, refusal};
-ghost use Rattle.lister.specs.Pen.{pen, wrote};
+ghost use Rattle.pen.specs.Pen.{pen, wrote};
 
 // The address of an instruction, its word, and what that says.
 fn line(out: &mut [u8], at: usize, i: InstructionIndex, w: u16) -> usize

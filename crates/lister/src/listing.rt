@@ -14,7 +14,7 @@ ghost use lib.ListN.{length};
 ghost use Rattle.printer.specs.Print.{printed};
 ghost use Rattle.lister.specs.Listing.{outcome, listing, listed, listedBuffer};
 ghost use Rattle.lister.specs.Parts.{Tells, shownOf, wordCount};
-ghost use Rattle.lister.specs.Pen.{pen, wrote};
+ghost use Rattle.pen.specs.Pen.{pen, wrote};
 
 // Assembles strictly, with 1,024 label entries; 19 comes before anything is read.
 fn assembled(text: &[u8], words: &mut [u16]) -> Assembled

@@ -1,5 +1,5 @@
 // The one constant table of the mnemonics: by it alone a name is read. The printer writes names of its own; that each of them finds its
-// row here is a law (lister/proofs/NameLaws.antt).
+// row here is a law (source/proofs/Names.antt).
 ghost use mathlib.Core.Path.{_≡_};
 ghost use Rattle.mnemonics.specs.Mnemonics.{rows};
 use crate::Kind;

@@ -6,7 +6,9 @@ use lib.Dec.{ltb}
 use Rattle.base.specs.Told.{Told, is, no}
 use Rattle.machine.specs.Answers.{Reply, Continue, Debug, Stop}
 use Rattle.memory.specs.Blocks.{Counted}
-use Rattle.asm.specs.Assemble.{Report, counts, refusal}
+use Rattle.asm.specs.Assemble.{Report, counts}
+use Rattle.asm.specs.Assemble as Assemble
+use Rattle.source.specs.Source.{Answer, length-of, refusal}
 
 abbrev pub coded : ℕ → ℕ → ℕ
 coded code above = code + 65536 * above
@@ -28,6 +30,12 @@ abbrev pub listedNumber : Told ℕ → ℕ
 listedNumber (is n) = coded 0 n
 listedNumber (no n) = n
 
+-- ---- text for words: how long it is; of a refusal the word's index, for NoText
+
+abbrev pub sourcedNumber : Answer → ℕ
+sourcedNumber (length-of n) = coded 0 n
+sourcedNumber (refusal n index) = coded n index
+
 -- ---- assembling
 
 -- 2^48 - 1
@@ -37,11 +45,11 @@ mostLines = 281474976710655
 -- words in bits 16 to 31, open references in 32 to 47, labels in 48 to 63; of a refusal the line, at most 2^48 - 1
 abbrev pub assembledNumber : Report → ℕ
 assembledNumber (counts words labels waiting) = 65536 * words + 4294967296 * waiting + 281474976710656 * labels
-assembledNumber (refusal n line) = coded n (min line mostLines)
+assembledNumber (Assemble.refusal n line) = coded n (min line mostLines)
 
 -- ---- for inner functions' contracts alone
 
 -- each of the three has 16 bits
 unfoldable pub fitting : Report → Bool
 fitting (counts words labels waiting) = ltb words 65536 && ltb labels 65536 && ltb waiting 65536
-fitting (refusal n line) = true
+fitting (Assemble.refusal n line) = true

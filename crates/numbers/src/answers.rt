@@ -5,6 +5,7 @@ use base::Refusal;
 use machine::StepAnswer;
 use memory::ReadOut;
 use printer::Printed;
+use source::Written;
 ghost use mathlib.Core.Path.{_≡_};
 ghost use mathlib.Core.Bool.{true};
 ghost use Prim.Native.Nat.{_≤_, min};
@@ -13,7 +14,9 @@ ghost use Rattle.machine.specs.Answers.{answered};
 ghost use Rattle.memory.specs.Blocks.{counted};
 ghost use Rattle.printer.specs.Print.{printed};
 ghost use Rattle.asm.specs.Assemble.{reported};
-ghost use Rattle.numbers.specs.Answers.{coded, stepCode, countedNumber, listedNumber, mostLines, assembledNumber, fitting};
+ghost use Rattle.source.specs.Source.{Small};
+ghost use Rattle.source.specs.Source as Source;
+ghost use Rattle.numbers.specs.Answers.{coded, stepCode, countedNumber, listedNumber, sourcedNumber, mostLines, assembledNumber, fitting};
 
 fn refused(r: Refusal) -> u64
     ensures { λ n. ⌜ n ≡ numberOf r ⌝ }
@@ -81,6 +84,16 @@ pub fn of_list(p: Printed) -> u64
     match p {
         Printed::Next(n) => 65536 * (n as u64),
         Printed::Refused(r) => refused(r),
+    }
+}
+
+pub fn of_text(w: Written) -> u64
+    requires { ⌜ Small (Source.answered w) ⌝ }
+    ensures { λ n. ⌜ n ≡ sourcedNumber (Source.answered w) ⌝ }
+{
+    match w {
+        Written::Next(n) => coded(0, n as u64),
+        Written::Refused(r, index) => coded(refused(r), index as u64),
     }
 }
 

@@ -9,5 +9,6 @@ pub use answers::of_list;
 pub use answers::of_read;
 pub use answers::of_run;
 pub use answers::of_step;
+pub use answers::of_text;
 pub use ranges::narrow_len;
 pub use ranges::narrow_start;

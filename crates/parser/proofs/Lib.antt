@@ -3,3 +3,4 @@ pub mod RegisterLaws
 pub mod NumberLaws
 pub mod Laws
 pub mod ReferLaws
+pub mod SayLaws

@@ -7,6 +7,8 @@ use native.Mathlib.Omega.{arith}
 use borrow.Author.Tests.{lt-ltb, ltb-true}
 use lib.Dec.{ltb, eqb}
 use Rattle.base.specs.Choice.{cond}
+use Rattle.instruction.specs.declared.Edition.{Edition}
+use Rattle.instruction.specs.declared.Edition.the-variants.{First, Second}
 use Rattle.instruction.specs.declared.Register.{Register}
 use Rattle.instruction.specs.declared.Register.the-variants.{A, B, C, M, SP, PC, BP, FLAGS}
 use Rattle.instruction.specs.declared.Operand.{Operand}
@@ -19,7 +21,7 @@ use Rattle.instruction.specs.declared.CompareOp.{CompareOp}
 use Rattle.instruction.specs.declared.CompareOp.the-variants.{Eq, NotEq, Less, LessEq, Greater, GreaterEq}
 use Rattle.instruction.specs.declared.Instruction.{Instruction}
 use Rattle.instruction.specs.declared.Instruction.the-variants.{Noop, Mov, MovShift, Arith, ArithRegReg, LdrStr, LdbStb, Cpy, Jmp, CondJmp, Cmp, CallRet}
-use Rattle.printer.specs.Text.{bytes, digit, digits, decimalOf, immediateOf, registerName, arithName, arithmeticName, compareName, shiftName, wordName, byteName, operandOf, one, pair, three, bracketed, shifted, addressOf, addressed, callText, text}
+use Rattle.printer.specs.Text.{bytes, digit, digits, decimalOf, immediateOf, registerName, arithName, arithmeticName, compareName, shiftName, wordName, byteName, operandOf, one, pair, three, bracketed, shifted, addressOf, addressed, callText, turned, textIn}
 
 unfoldable pub ascii : List ℕ → Bool
 ascii [] = true
@@ -144,17 +146,22 @@ unfolding callText ascii
 call-ascii true a = refl
 call-ascii false a = one-ascii (Imm a)
 
-pub text-ascii : (i : Instruction) → ascii (text i) ≡ true
-unfolding text ascii
-text-ascii Noop = refl
-text-ascii (Mov d o) = pair-ascii d o
-text-ascii (MovShift r amount left imm) = rw (ascii-append, shift-ascii, shifted-ascii)
-text-ascii (Arith d o op) = rw (ascii-append, arith-ascii, pair-ascii)
-text-ascii (ArithRegReg d a b op) = rw (ascii-append, arithmetic-ascii, three-ascii)
-text-ascii (LdrStr r a store shift) = rw (ascii-append, word-ascii, addressed-ascii)
-text-ascii (LdbStb r a store shift) = rw (ascii-append, byte-ascii, addressed-ascii)
-text-ascii (Cpy a b) = pair-ascii a (Reg b)
-text-ascii (Jmp o) = one-ascii o
-text-ascii (CondJmp o) = one-ascii o
-text-ascii (Cmp r o op) = rw (ascii-append, compare-ascii, pair-ascii)
-text-ascii (CallRet ret a) = call-ascii ret a
+turned-ascii : (e : Edition) (r : Register) (amount imm : ℕ) → ascii (turned e r amount imm) ≡ true
+unfolding turned
+turned-ascii First r amount imm = shifted-ascii r amount imm
+turned-ascii Second r amount imm = shifted-ascii r imm amount
+
+pub text-ascii : (e : Edition) (i : Instruction) → ascii (textIn e i) ≡ true
+unfolding textIn ascii
+text-ascii e Noop = refl
+text-ascii e (Mov d o) = pair-ascii d o
+text-ascii e (MovShift r amount left imm) = rw (ascii-append, shift-ascii, turned-ascii)
+text-ascii e (Arith d o op) = rw (ascii-append, arith-ascii, pair-ascii)
+text-ascii e (ArithRegReg d a b op) = rw (ascii-append, arithmetic-ascii, three-ascii)
+text-ascii e (LdrStr r a store shift) = rw (ascii-append, word-ascii, addressed-ascii)
+text-ascii e (LdbStb r a store shift) = rw (ascii-append, byte-ascii, addressed-ascii)
+text-ascii e (Cpy a b) = pair-ascii a (Reg b)
+text-ascii e (Jmp o) = one-ascii o
+text-ascii e (CondJmp o) = one-ascii o
+text-ascii e (Cmp r o op) = rw (ascii-append, compare-ascii, pair-ascii)
+text-ascii e (CallRet ret a) = call-ascii ret a

@@ -6,9 +6,11 @@ use lib.ListN.{length, take, drop}
 use Rattle.base.specs.Choice.{cond}
 use Rattle.base.specs.Numbers.{numberOf}
 use Rattle.base.specs.Told.{Told, is, no, _>>=_}
+use Rattle.instruction.specs.declared.Edition.{Edition}
+use Rattle.instruction.specs.declared.Edition.the-variants.{First}
 use Rattle.instruction.specs.declared.Instruction.{Instruction}
 use Rattle.instruction.specs.Decode.{decode}
-use Rattle.printer.specs.Text.{text}
+use Rattle.printer.specs.Text.{textIn}
 use Rattle.printer.specs.declared.Printed.{Printed}
 use Rattle.printer.specs.declared.Printed.the-variants.{Next, Refused}
 
@@ -21,11 +23,18 @@ printed (Next n) = is n
 printed (Refused r) = no (numberOf r)
 
 -- with room bytes in the buffer
-unfoldable pub printNext : Instruction → ℕ → ℕ → Told ℕ
-printNext i room at = cond (leb (at + length (text i)) room) (is (at + length (text i))) (no 19)
+unfoldable pub printNextIn : Edition → Instruction → ℕ → ℕ → Told ℕ
+printNextIn e i room at = cond (leb (at + length (textIn e i)) room) (is (at + length (textIn e i))) (no 19)
 
-unfoldable pub printBuffer : Instruction → List ℕ → ℕ → List ℕ
-printBuffer i buffer at = cond (leb (at + length (text i)) (length buffer)) (placed (text i) buffer at) buffer
+unfoldable pub printBufferIn : Edition → Instruction → List ℕ → ℕ → List ℕ
+printBufferIn e i buffer at = cond (leb (at + length (textIn e i)) (length buffer)) (placed (textIn e i) buffer at) buffer
+
+-- as a listing shows it
+abbrev pub printNext : Instruction → ℕ → ℕ → Told ℕ
+printNext i room at = printNextIn First i room at
+
+abbrev pub printBuffer : Instruction → List ℕ → ℕ → List ℕ
+printBuffer i buffer at = printBufferIn First i buffer at
 
 -- ---- what a word says, at the start of a buffer: 4 to 6 where it says no instruction, then 19; both write nothing
 

@@ -1,10 +1,12 @@
--- The text of an instruction. MSL and MSR have the amount first, Noop is NOOP.
+-- The text of an instruction, by an edition of the instruction set: the editions differ in MSL and MSR alone. Noop is NOOP.
 use Prim.Native.Nat.{ℕ, zero, suc, _+_, _/_, _%_}
 use mathlib.Core.Bool.{Bool, true, false}
 use mathlib.Core.List.{List, [], _∷_, _++_}
 use lib.Dec.{ltb, eqb}
 pub use Rattle.base.specs.Bytes.{bytes}
 use Rattle.base.specs.Choice.{cond}
+use Rattle.instruction.specs.declared.Edition.{Edition}
+use Rattle.instruction.specs.declared.Edition.the-variants.{First, Second}
 use Rattle.instruction.specs.declared.Register.{Register}
 use Rattle.instruction.specs.declared.Register.the-variants.{A, B, C, M, SP, PC, BP, FLAGS}
 use Rattle.instruction.specs.declared.Operand.{Operand}
@@ -108,9 +110,14 @@ three d a b = pair d (Reg a) ++ bytes ", " ++ registerName b
 unfoldable pub bracketed : ℕ → ℕ → List ℕ
 bracketed first second = bytes "[" ++ immediateOf first ++ bytes " " ++ immediateOf second ++ bytes "]"
 
--- the amount first
+-- a register and two numbers
 unfoldable pub shifted : Register → ℕ → ℕ → List ℕ
-shifted r amount imm = bytes " " ++ registerName r ++ bytes ", " ++ bracketed amount imm
+shifted r first second = bytes " " ++ registerName r ++ bytes ", " ++ bracketed first second
+
+-- the amount first; in edition 2 the immediate first, as the parser reads them
+unfoldable pub turned : Edition → Register → ℕ → ℕ → List ℕ
+turned First r amount imm = shifted r amount imm
+turned Second r amount imm = shifted r imm amount
 
 -- an address register, in brackets with its shift where that is not 0
 unfoldable pub addressOf : Register → ℕ → List ℕ
@@ -127,16 +134,20 @@ callText false a = bytes "CALL" ++ one (Imm a)
 
 -- ---- instructions
 
-unfoldable pub text : Instruction → List ℕ
-text Noop = bytes "NOOP"
-text (Mov d o) = bytes "MOV" ++ pair d o
-text (MovShift r amount left imm) = shiftName left ++ shifted r amount imm
-text (Arith d o op) = arithName op ++ pair d o
-text (ArithRegReg d a b op) = arithmeticName op ++ three d a b
-text (LdrStr r a store shift) = wordName store ++ addressed r a shift
-text (LdbStb r a store shift) = byteName store ++ addressed r a shift
-text (Cpy a b) = bytes "CPY" ++ pair a (Reg b)
-text (Jmp o) = bytes "JMP" ++ one o
-text (CondJmp o) = bytes "CJP" ++ one o
-text (Cmp r o op) = compareName op ++ pair r o
-text (CallRet ret a) = callText ret a
+unfoldable pub textIn : Edition → Instruction → List ℕ
+textIn e Noop = bytes "NOOP"
+textIn e (Mov d o) = bytes "MOV" ++ pair d o
+textIn e (MovShift r amount left imm) = shiftName left ++ turned e r amount imm
+textIn e (Arith d o op) = arithName op ++ pair d o
+textIn e (ArithRegReg d a b op) = arithmeticName op ++ three d a b
+textIn e (LdrStr r a store shift) = wordName store ++ addressed r a shift
+textIn e (LdbStb r a store shift) = byteName store ++ addressed r a shift
+textIn e (Cpy a b) = bytes "CPY" ++ pair a (Reg b)
+textIn e (Jmp o) = bytes "JMP" ++ one o
+textIn e (CondJmp o) = bytes "CJP" ++ one o
+textIn e (Cmp r o op) = compareName op ++ pair r o
+textIn e (CallRet ret a) = callText ret a
+
+-- as a listing shows it
+abbrev pub text : Instruction → List ℕ
+text i = textIn First i

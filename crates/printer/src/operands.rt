@@ -3,11 +3,12 @@ use crate::decimals::immediate;
 use crate::lines::Line;
 use crate::lines::add;
 use crate::names::register;
+use instruction::Edition;
 use instruction::Operand;
 use instruction::Register;
 ghost use mathlib.Core.Path.{_≡_};
 ghost use Rattle.printer.specs.Line.{added};
-ghost use Rattle.printer.specs.Text.{operandOf, one, pair, three, bracketed, shifted, addressOf, addressed};
+ghost use Rattle.printer.specs.Text.{operandOf, one, pair, three, bracketed, shifted, turned, addressOf, addressed};
 
 // A register's name, or `#` and the number.
 pub fn operand(l: Line, o: Operand) -> Line
@@ -51,12 +52,22 @@ fn bracketed(l: Line, first: u16, second: u16) -> Line
     add(b, b"]")
 }
 
-// A register, and in brackets the amount, which stands before the immediate.
-pub fn shifted(l: Line, r: Register, amount: u8, imm: u16) -> Line
-    ensures { λ n. ⌜ n ≡ added l (shifted r amount imm) ⌝ }
+// A register and two numbers.
+fn shifted(l: Line, r: Register, first: u16, second: u16) -> Line
+    ensures { λ n. ⌜ n ≡ added l (shifted r first second) ⌝ }
 {
     let a = register(add(l, b" "), r);
-    bracketed(add(a, b", "), amount as u16, imm)
+    bracketed(add(a, b", "), first, second)
+}
+
+// A register, and in the edition's order the amount and the immediate.
+pub fn turned(l: Line, e: Edition, r: Register, amount: u8, imm: u16) -> Line
+    ensures { λ n. ⌜ n ≡ added l (turned e r amount imm) ⌝ }
+{
+    match e {
+        Edition::First => shifted(l, r, amount as u16, imm),
+        Edition::Second => shifted(l, r, imm, amount as u16),
+    }
 }
 
 // An address register, with its shift where that is not 0.

@@ -3,12 +3,13 @@ use crate::Printed;
 use crate::texts::line_of;
 use base::Refusal;
 use instruction::Decoded;
+use instruction::Edition;
 use instruction::Instruction;
 use instruction::decode;
 ghost use mathlib.Core.Path.{_≡_};
 ghost use lib.ListN.{length};
 ghost use Prim.Native.Nat.{_+_, _≤_};
-ghost use Rattle.printer.specs.Print.{placed, printed, printNext, printBuffer, wordNext, wordBuffer};
+ghost use Rattle.printer.specs.Print.{placed, printed, printNextIn, printBufferIn, printNext, printBuffer, wordNext, wordBuffer};
 
 // Copies the text into out from position at on.
 fn copy(text: &[u8], out: &mut [u8], at: usize)
@@ -24,11 +25,11 @@ fn copy(text: &[u8], out: &mut [u8], at: usize)
 
 // Writes the instruction's text into out from position at on, and answers the position after it; 19 where it doesn't fit, and then
 // nothing is written. All other bytes of out stay.
-pub fn print(i: Instruction, out: &mut [u8], at: usize) -> Printed
-    ensures { λ r. ⌜ printed r ≡ printNext i (length (now (out .entry))) at ⌝ }
-    ensures { λ _. ⌜ now (out .exit) ≡ printBuffer i (now (out .entry)) at ⌝ }
+pub fn print_in(e: Edition, i: Instruction, out: &mut [u8], at: usize) -> Printed
+    ensures { λ r. ⌜ printed r ≡ printNextIn e i (length (now (out .entry))) at ⌝ }
+    ensures { λ _. ⌜ now (out .exit) ≡ printBufferIn e i (now (out .entry)) at ⌝ }
 {
-    let l = line_of(i);
+    let l = line_of(e, i);
     let bytes = l.bytes;
     let n = l.len;
     if out.len() < at {
@@ -39,6 +40,14 @@ pub fn print(i: Instruction, out: &mut [u8], at: usize) -> Printed
     }
     copy(&bytes[..n], out, at);
     Printed::Next(at + n)
+}
+
+// The same by the first edition, as a listing shows it.
+pub fn print(i: Instruction, out: &mut [u8], at: usize) -> Printed
+    ensures { λ r. ⌜ printed r ≡ printNext i (length (now (out .entry))) at ⌝ }
+    ensures { λ _. ⌜ now (out .exit) ≡ printBuffer i (now (out .entry)) at ⌝ }
+{
+    print_in(Edition::First, i, out, at)
 }
 
 // Writes what a word says at the start of out: 4 to 6 where it says no instruction, then as `print` does.

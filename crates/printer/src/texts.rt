@@ -11,13 +11,14 @@ use crate::names::word_name;
 use crate::operands::addressed;
 use crate::operands::one;
 use crate::operands::pair;
-use crate::operands::shifted;
 use crate::operands::three;
+use crate::operands::turned;
+use instruction::Edition;
 use instruction::Instruction;
 use instruction::Operand;
 ghost use mathlib.Core.Path.{_≡_};
 ghost use Rattle.printer.specs.Line.{blank, added};
-ghost use Rattle.printer.specs.Text.{text, callText};
+ghost use Rattle.printer.specs.Text.{textIn, callText};
 
 fn call(l: Line, ret: bool, a: u16) -> Line
     ensures { λ n. ⌜ n ≡ added l (callText ret a) ⌝ }
@@ -28,14 +29,20 @@ fn call(l: Line, ret: bool, a: u16) -> Line
     one(add(l, b"CALL"), Operand::Imm(a))
 }
 
-pub fn line_of(i: Instruction) -> Line
-    ensures { λ n. ⌜ n ≡ added blank (text i) ⌝ }
+pub fn line_of(e: Edition, i: Instruction) -> Line
+    ensures { λ n. ⌜ n ≡ added blank (textIn e i) ⌝ }
 {
     let l = empty();
     match i {
         Instruction::Noop => add(l, b"NOOP"),
         Instruction::Mov(d, o) => pair(add(l, b"MOV"), d, o),
-        Instruction::MovShift(r, amount, left, imm) => shifted(shift_name(l, left), r, amount, imm),
+        Instruction::MovShift(r, amount, left, imm) => turned(
+            shift_name(l, left),
+            e,
+            r,
+            amount,
+            imm,
+        ),
         Instruction::Arith(d, o, op) => pair(arith_name(l, op), d, o),
         Instruction::ArithRegReg(d, a, b, op) => three(arithmetic_name(l, op), d, a, b),
         Instruction::LdrStr(r, a, store, shift) => addressed(word_name(l, store), r, a, shift),

@@ -14,6 +14,7 @@ use memory::ReadOut;
 use memory::Stored;
 use memory::WordRead;
 use printer::Printed;
+use source::Written;
 
 // What a command comes to: the state after it, and its answer.
 pub struct Outcome {
@@ -112,6 +113,21 @@ pub fn printed(r: Printed) -> Said {
         Printed::Next(n) => number(n as u64),
         Printed::Refused(r) => refused(r),
     }
+}
+
+// The length of a text from words, or the refusal; with 33 stands the index of the word that no line says.
+pub fn sourced(r: Written) -> Said {
+    match r {
+        Written::Next(n) => number(n as u64),
+        Written::Refused(r, at) => refused_word(r, at),
+    }
+}
+
+fn refused_word(r: Refusal, at: usize) -> Said {
+    if base::number(r) == 33 {
+        return decimal(put(refused(r), b' '), at as u64);
+    }
+    refused(r)
 }
 
 // The counts of an accepted text, or the refusal with its line.

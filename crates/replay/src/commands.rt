@@ -33,6 +33,7 @@ use crate::said::Said;
 use crate::setup::poke;
 use crate::setup::seed;
 use crate::single_lines::parse_line;
+use crate::sources::text;
 use crate::state::Journal;
 use crate::state::Memory;
 use crate::state::Script;
@@ -153,6 +154,7 @@ fn show(
         names::ASM => assemble(c, line, out, p),
         names::ASMN => assemble_copies(c, line, out, p),
         names::LISTING => listing(c, line, out, p),
+        names::TEXT | names::TEXTN => text(c, line, out, p),
         _ => output::said(out, p, said),
     }
 }

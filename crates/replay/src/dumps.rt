@@ -26,16 +26,26 @@ fn filled(w: State, c: Command, mem: &[u8], dev: &[u8], journal: &[u8], buf: &mu
     counted(host::read_out(w, mem, dev, journal, short(c.a), c.b as usize, buf))
 }
 
+// The field that has the buffer's length.
+fn room_field(c: Command) -> u32 {
+    let name = c.name;
+    match name {
+        names::TEXT => c.a,
+        names::PRINT => c.b,
+        _ => c.c,
+    }
+}
+
 // How long the buffer is that the line asks for.
-fn room(c: Command) -> usize
+pub fn room(c: Command) -> usize
     ensures { λ r. ⌜ r ≤ 65600 ⌝ }
 {
-    let n = if c.name == names::PRINT { c.b } else { c.c };
+    let n = room_field(c);
     if 65600 < n { 0 } else { n as usize }
 }
 
 // The verdict, and then the first n bytes of the buffer.
-fn shown(t: Said, buf: &[u8; 65600], n: usize, out: &mut Output, p: usize) -> usize {
+pub fn shown(t: Said, buf: &[u8; 65600], n: usize, out: &mut Output, p: usize) -> usize {
     let p = output::said(out, p, put(t, b' '));
     output::hex_bytes(out, p, buf, n)
 }

@@ -25,9 +25,17 @@ fn program(
     after(host::write_program(w, mem, dev, journal, &all[0..n]))
 }
 
+// Whether a command has one word that counts so many times, and no list.
+fn repeats(name: u64) -> bool {
+    match name {
+        names::LOADN | names::TEXTN => true,
+        _ => false,
+    }
+}
+
 // How many words the line has: those of its list, which are put into v, or as many as it says. Nowhere where the list is bad.
-fn count(c: Command, line: &[u8], v: &mut [u16; 32800]) -> usize {
-    if c.name == names::LOADN {
+pub fn count(c: Command, line: &[u8], v: &mut [u16; 32800]) -> usize {
+    if repeats(c.name) {
         return c.a as usize;
     }
     let list = words(line, c.next, v);

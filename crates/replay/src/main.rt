@@ -21,6 +21,7 @@ mod rows;
 mod said;
 mod setup;
 mod single_lines;
+mod sources;
 mod state;
 mod tables;
 mod texts;

@@ -56,6 +56,10 @@ pub const LINE: u64 = 0x6c696e65;
 
 pub const LISTING: u64 = 0x6c697374696e67;
 
+pub const TEXT: u64 = 0x74657874;
+
+pub const TEXTN: u64 = 0x746578746e;
+
 pub const STATE: u64 = 0x7374617465;
 
 // The words to choose by: a buffer (`device` is a command, too), or the rules of assembling.
@@ -165,6 +169,13 @@ fn list(lent: u8, texts: u8) -> Shape {
     s
 }
 
+// A number, and a list.
+fn words(lent: u8, a: u32) -> Shape {
+    let mut s = numbers(lent, a, 0, 0);
+    s.has_list = true;
+    s
+}
+
 // What the command of this name is lent, and its fields. `encode` has five numbers that go by rules of their own (rows.rt).
 pub fn shape_of(name: u64) -> Shape {
     match name {
@@ -194,6 +205,8 @@ pub fn shape_of(name: u64) -> Shape {
         ASMN => chosen(PRINTS, RULES, 32800, 1100, 32800, 2),
         LINE => list(LOOKS, 2),
         LISTING => text(PRINTS),
+        TEXT => words(PRINTS, 65600),
+        TEXTN => numbers(PRINTS, 32800, 65535, 65600),
         STATE => nothing(PRINTS),
         _ => nothing(BAD),
     }

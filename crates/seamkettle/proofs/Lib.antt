@@ -4,4 +4,5 @@ pub mod LoadLaws
 pub mod TextLaws
 pub mod Demand
 pub mod Means
+pub mod Back
 pub mod Refused

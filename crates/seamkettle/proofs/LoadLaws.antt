@@ -1,22 +1,21 @@
 -- A load and a read-out as C sees them: 31, or what the host's entry does with the block's state. Assumes nothing.
-use Prim.Native.Nat.{ℕ, _+_, _*_, _/_, _≤_, _<_}
-use mathlib.Core.Path.{_≡_, sym, ap, _∙_}
+use Prim.Native.Nat.{ℕ, _+_, _/_, _≤_, _<_}
+use mathlib.Core.Path.{_≡_, ap, _∙_}
 use mathlib.Core.Bool.{true, false}
 use mathlib.Core.List.{List, _++_}
 use lib.Dec.{ltb}
 use lib.ListN.{length, take, drop}
-use lib.Seq.{length-take-le, take-at}
 use native.Mathlib.Omega.{arith}
 use Rattle.base.specs.Choice.{cond}
-use Rattle.wordbytes.specs.Words.{wordsFrom, wordsIn}
-use Rattle.wordbytes.proofs.Laws.{length-words, words-in}
+use Rattle.wordbytes.specs.Words.{wordsFrom, wordsIn, even}
+use Rattle.wordbytes.proofs.Laws.{length-words, words-in, read-all}
 use Rattle.memory.specs.Bytes.{Lent}
 use Rattle.memory.specs.Blocks.{Counted}
 use Rattle.journal.specs.declared.State.{State}
 use Rattle.host.specs.Host.{readOut, readOutBuffer, loadNumber, loadState, loadBytes}
 use Rattle.block.specs.Block.{isBlock, packed, unpacked}
 use Rattle.numbers.specs.Answers.{countedNumber}
-use Rattle.seamkettle.specs.Calls.{Seen, seen, even, loading, numberIn, readNumber, readBuffer}
+use Rattle.seamkettle.specs.Calls.{Seen, seen, loading, numberIn, readNumber, readBuffer}
 use Rattle.host.proofs.Far.{read-far, read-far-buffer, read-count, load-long}
 use Rattle.numbers.proofs.RangeLaws.{narrowed}
 
@@ -32,25 +31,7 @@ module _ (s : State) (b : Lent) (j bytes program : List ℕ) where
       let n : length (wordsIn bytes) ≡ length bytes / 2 = ap length (words-in bytes) ∙ length-words (length bytes / 2) bytes in
       load-long s b j program (wordsIn bytes) (omega arith) (omega arith)
 
--- the words that were read into the first places of the program
-module _ (bytes program : List ℕ) (h : length bytes / 2 ≤ 32769) (e : length program ≡ 32769) where
-  pub lent-part : length (take (length bytes / 2) program) ≡ length bytes / 2
-  lent-part = length-take-le (length bytes / 2) program (omega arith)
-
-  pub lent-fits : 2 * length (take (length bytes / 2) program) ≤ length bytes
-  lent-fits = omega (arith, lent-part)
-
-  module _ (last : List ℕ) (q : last ≡ wordsFrom (length (take (length bytes / 2) program)) bytes) where
-    read-all : take (length bytes / 2) (last ++ drop (length bytes / 2) program) ≡ wordsIn bytes
-    read-all =
-        let f : last ≡ wordsFrom (length bytes / 2) bytes = q ∙ ap (λ (k : ℕ). wordsFrom k bytes) lent-part in
-        let m : length last ≡ length bytes / 2 = ap length f ∙ length-words (length bytes / 2) bytes in
-        take-at last (drop (length bytes / 2) program) (length bytes / 2) m ∙ f ∙ sym (words-in bytes)
-
-    pub read-part : length (take (length bytes / 2) (last ++ drop (length bytes / 2) program)) ≡ length bytes / 2
-    read-part = ap length read-all ∙ ap length (words-in bytes) ∙ length-words (length bytes / 2) bytes
-
-module _ (s : State) (b : Lent) (j bytes program : List ℕ) (h : length bytes / 2 ≤ 32769) (e : length program ≡ 32769)
+module _ (s : State) (b : Lent) (j bytes program : List ℕ) (h : length bytes / 2 ≤ length program)
     (last : List ℕ) (q : last ≡ wordsFrom (length (take (length bytes / 2) program)) bytes) where
   abbrev loaded-part : List ℕ
   loaded-part = take (length bytes / 2) (last ++ drop (length bytes / 2) program)
@@ -59,7 +40,7 @@ module _ (s : State) (b : Lent) (j bytes program : List ℕ) (h : length bytes /
       × (loadState s b j loaded-part ≡ loadState s b j (wordsIn bytes))
       × (loadBytes s b j loaded-part ≡ loadBytes s b j (wordsIn bytes))
   load-read =
-      let r = read-all bytes program h e last q in
+      let r = read-all bytes program h last q in
       (ap (loadNumber s b j) r, ap (loadState s b j) r, ap (loadBytes s b j) r)
 
 -- ---- a load

@@ -7,7 +7,7 @@ use mathlib.Core.List.{List}
 use native.Mathlib.Omega.{arith}
 use lib.ListN.{length, take}
 use Rattle.base.specs.Choice.{cond}
-use Rattle.wordbytes.specs.Words.{bytesOf, wordsIn}
+use Rattle.wordbytes.specs.Words.{bytesOf, wordsIn, even}
 use Rattle.wordbytes.proofs.Laws.{words-in-back}
 use Rattle.asm.specs.Work.{task, Work}
 use Rattle.asm.specs.Meaning.{meaning}
@@ -19,7 +19,7 @@ use Rattle.asm.proofs.Rooms.{report-most}
 use Rattle.asm.proofs.Sound.{strict-sound}
 use Rattle.numbers.specs.Answers.{mostLines, assembledNumber}
 use Rattle.numbers.proofs.Parts.{the-code, the-words, the-open}
-use Rattle.seamkettle.specs.Calls.{even, assembling, assembleNumber, assembledWords}
+use Rattle.seamkettle.specs.Calls.{assembling, assembleNumber, assembledWords}
 use Rattle.seamkettle.specs.Means.{wordsCounted, openCounted, Said, MeansFromC}
 
 -- n of the words that are there, of which n were made

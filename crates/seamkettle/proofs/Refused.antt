@@ -5,7 +5,7 @@ use mathlib.Core.Path.{_≡_, refl, ap, _∙_}
 use mathlib.Core.Bool.{Bool, true, false, _&&_}
 use mathlib.Core.List.{List}
 use Rattle.base.specs.Choice.{cond}
-use Rattle.wordbytes.specs.Words.{areBytes, wordsIn}
+use Rattle.wordbytes.specs.Words.{areBytes, wordsIn, even}
 use Rattle.memory.specs.Bytes.{Lent}
 use Rattle.journal.specs.States.{Whole, whole}
 use Rattle.journal.specs.declared.State.{State}
@@ -21,7 +21,7 @@ use Rattle.base.proofs.Tests.{and-left}
 use Rattle.block.specs.Block.{isBlock, packed, unpacked}
 use Rattle.block.proofs.Laws.{pack-unpack}
 use Rattle.numbers.specs.Answers.{coded, stepCode}
-use Rattle.seamkettle.specs.Calls.{Seen, seen, shown, stepping, running, steppingBack, even, loaded, loading, blockAfter}
+use Rattle.seamkettle.specs.Calls.{seen, shown, stepping, running, steppingBack, loaded, loading, blockAfter}
 
 module _ (block : List ℕ) (a : areBytes block ≡ true) where
   -- an entry that leaves the state leaves the block

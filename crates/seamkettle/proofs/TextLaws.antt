@@ -7,16 +7,16 @@ use mathlib.Core.Bool.{Bool, true, false}
 use mathlib.Core.List.{List, _++_}
 use mathlib.Core.Path.{_∙_, _≡_, refl, sym, ap}
 use native.Mathlib.Omega.{arith}
-use borrow.Author.Tests.{leb-true, leb-false, eqb-true, eq-eqb, ne-eqb}
+use borrow.Author.Tests.{leb-true, leb-false}
 use Rattle.base.specs.Told.{Told, is, no}
-use Rattle.wordbytes.specs.Words.{bytesOf}
-use Rattle.wordbytes.proofs.Laws.{length-bytes, bytes-append, bytes-zeros}
+use Rattle.wordbytes.specs.Words.{bytesOf, even}
+use Rattle.wordbytes.proofs.Laws.{length-bytes, bytes-append, bytes-zeros, even-whole}
 use Rattle.asm.specs.Assemble.{Outcome, accepted, refused, outcome, wordsOf, filled, Report, counts, refusal, report}
 use Rattle.printer.specs.Print.{wordNext}
 use Rattle.printer.proofs.Laws.{Small, word-small}
 use Rattle.lister.specs.Listing.{listing, listed}
 use Rattle.numbers.specs.Answers.{listedNumber, assembledNumber, fitting}
-use Rattle.seamkettle.specs.Calls.{even, assembling, assembleNumber, assembledWords}
+use Rattle.seamkettle.specs.Calls.{assembling, assembleNumber, assembledWords}
 use Rattle.numbers.proofs.FittingLaws.{fit-counts, fit-refusal}
 use Rattle.asm.proofs.Rooms.{outcome-room, words-most, report-most}
 use Rattle.asm.proofs.FillLaws.{filled-parts, filled-exact, filled-more}
@@ -86,24 +86,15 @@ module _ (strict : Bool) (text words own : List ℕ) (n : ℕ) (e : n ≡ min (l
     pub assembled-bytes : even words ≡ true → (mid after : List ℕ) → mid ≡ sets words 0 (bytesOf (take n (last ++ drop n own)))
         → after ≡ filled (length mid) (take (2 * n) mid)
         → after ≡ bytesOf (filled (length words / 2) (wordsOf (assembling strict text words)))
-    unfolding even
     assembled-bytes h mid after r s =
         let ws = wordsOf (outcome strict text n 1024) in
-        let g : length words % 2 ≡ 0 = eqb-true (length words % 2) 0 h in
+        let g = even-whole words h in
         let k : n ≤ length words / 2 = omega arith in
         s ∙ ap (λ (x : List ℕ). filled (length x) (take (2 * n) x))
         (r ∙ ap (λ (x : List ℕ). sets words 0 (bytesOf x)) own-words) ∙ spread words ws n g k (words-short strict text n 1024)
         ∙ ap (λ (o : Outcome). bytesOf (filled (length words / 2) (wordsOf o))) room-same
 
 -- ---- the whole call
-
-pub even-yes : (words : List ℕ) → length words % 2 ≡ 0 → even words ≡ true
-unfolding even
-even-yes words h = eq-eqb (length words % 2) 0 h
-
-pub even-no : (words : List ℕ) → (length words % 2 ≡ 0 → ⊥) → even words ≡ false
-unfolding even
-even-no words h = ne-eqb (length words % 2) 0 h
 
 module _ (strict : Bool) (text words : List ℕ) where
   module _ (e : even words ≡ false) where

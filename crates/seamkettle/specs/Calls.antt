@@ -1,11 +1,10 @@
 -- What each entry does, seen from C: the number that it answers, and every byte that was lent to it, afterwards.
-use Prim.Native.Nat.{ℕ, _+_, _*_, _/_, _%_}
+use Prim.Native.Nat.{ℕ, _+_, _*_, _/_}
 use mathlib.Core.Bool.{Bool, _&&_}
 use mathlib.Core.List.{List}
-use lib.Dec.{eqb}
 use lib.ListN.{length}
 use Rattle.base.specs.Choice.{cond}
-use Rattle.wordbytes.specs.Words.{bytesOf, wordsIn}
+use Rattle.wordbytes.specs.Words.{bytesOf, wordsIn, even}
 use Rattle.memory.specs.Bytes.{Lent}
 use Rattle.journal.specs.States.{Whole, whole}
 use Rattle.journal.specs.declared.State.{State}
@@ -45,10 +44,6 @@ running n block b j =
 
 unfoldable pub steppingBack : List ℕ → Lent → List ℕ → Seen
 steppingBack block b j = through (isBlock block) (λ w. let a = stepBack w in shown (a .number) (a .whole)) block b j
-
--- are there bytes for whole words?
-unfoldable pub even : List ℕ → Bool
-even bytes = eqb (length bytes % 2) 0
 
 -- a load, all there is after it
 abbrev pub loaded : Whole → List ℕ → Whole
@@ -91,7 +86,7 @@ unfoldable pub assembledWords : Bool → List ℕ → List ℕ → List ℕ
 assembledWords strict text words =
     cond (even words) (bytesOf (filled (length words / 2) (wordsOf (assembling strict text words)))) words
 
--- ---- kettle_version: 0.3.0, with two decimal digits each for minor and patch
+-- ---- kettle_version: 0.4.0, with two decimal digits each for minor and patch
 
 abbrev pub version : ℕ
-version = 10000 * 0 + 100 * 3 + 0
+version = 10000 * 0 + 100 * 4 + 0

@@ -1,23 +1,26 @@
-// A text: its words, its listing; the text of one word. No machine is needed.
+// A text: its words, its listing; the text of one word, and of many. No machine is needed.
 use asm::Assembled;
 use asm::Rules;
 use assembler::assemble_words;
 use numbers::bad_block;
 use numbers::of_assembly;
 use numbers::of_list;
+use numbers::of_text;
 use printer::print_word;
+use source::text_of_bytes;
 use wordbytes::write_words;
 ghost use mathlib.Core.Path.{_≡_};
 ghost use mathlib.Core.Bool.{true, not};
 ghost use Prim.Native.Nat.{_/_, min};
 ghost use lib.Dec.{eqb};
 ghost use lib.ListN.{length, take};
-ghost use Rattle.wordbytes.specs.Words.{bytesOf};
+ghost use Rattle.wordbytes.specs.Words.{bytesOf, even};
 ghost use Rattle.asm.specs.Assemble.{wordsOf, filled, report, reported};
 ghost use Rattle.printer.specs.Print.{wordNext, wordBuffer};
 ghost use Rattle.lister.specs.Listing.{listed, listedBuffer};
-ghost use Rattle.numbers.specs.Answers.{listedNumber, fitting};
-ghost use Rattle.seamkettle.specs.Calls.{even, assembling, assembleNumber, assembledWords};
+ghost use Rattle.source.specs.Source.{byteAnswer, byteBuffer};
+ghost use Rattle.numbers.specs.Answers.{listedNumber, sourcedNumber, fitting};
+ghost use Rattle.seamkettle.specs.Calls.{assembling, assembleNumber, assembledWords};
 
 // Zeros from byte `from` on.
 fn clear_bytes(bytes: &mut [u8], from: usize)
@@ -90,4 +93,14 @@ pub extern "C" fn kettle_print(word: u16, out: &mut [u8]) -> u64
     ensures { λ _. ⌜ now (out .exit) ≡ wordBuffer word (now (out .entry)) ⌝ }
 {
     of_list(print_word(word, out))
+}
+
+// Assembly text for words, which assembles plainly to the very same words: 31, 16, 33 with the index of the lowest word that no line
+// gives, 19, or how long it is.
+#[no_mangle]
+pub extern "C" fn kettle_text(words: &[u8], out: &mut [u8]) -> u64
+    ensures { λ r. ⌜ r ≡ sourcedNumber (byteAnswer (now (words .entry)) (length (now (out .entry)))) ⌝ }
+    ensures { λ _. ⌜ now (out .exit) ≡ byteBuffer (now (words .entry)) (now (out .entry)) ⌝ }
+{
+    of_text(text_of_bytes(words, out))
 }

@@ -7,5 +7,5 @@ ghost use Rattle.seamkettle.specs.Calls.{version};
 pub extern "C" fn kettle_version() -> u32
     ensures { λ r. ⌜ r ≡ version ⌝ }
 {
-    300
+    400
 }

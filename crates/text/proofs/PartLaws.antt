@@ -62,7 +62,7 @@ pub rest : (a : ℕ) (s : List ℕ) → take (length s - a) (drop a s) ≡ drop 
 rest a s = take-all (length s - a) (drop a s) (omega (arith, length-drop a s))
 
 -- what dropping at the end leaves, with one byte more
-snoc-drops : (p : ℕ → Bool) (xs : List ℕ) (y : ℕ) → p y ≡ true → dropEnd p (xs ++ (y ∷ [])) ≡ dropEnd p xs
+pub snoc-drops : (p : ℕ → Bool) (xs : List ℕ) (y : ℕ) → p y ≡ true → dropEnd p (xs ++ (y ∷ [])) ≡ dropEnd p xs
 snoc-drops p [] y e = rw e
 snoc-drops p (x ∷ xs) y e = ap (keepIf (p x) x) (snoc-drops p xs y e)
 

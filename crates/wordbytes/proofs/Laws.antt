@@ -1,16 +1,16 @@
--- Words are read back from their bytes, and bytes from the words that they make. Assumes nothing.
+-- Words are read back from their bytes, and bytes from the words that they make; also by way of a buffer's first places. Assumes nothing.
 use Prim.Native.Nat.{ℕ, zero, suc, _+_, _*_, _/_, _%_, _<_, _≤_}
 use mathlib.Core.Path.{_≡_, refl, sym, ap, _∙_}
-use mathlib.Core.Bool.{true}
+use mathlib.Core.Bool.{true, false}
 use mathlib.Core.List.{List, [], _∷_, _++_, append-nil}
 use lib.Dec.{ltb}
 use lib.ListN.{length, getD, take, drop, replicate}
-use lib.Seq.{take-all}
-use borrow.Author.Tests.{ltb-true}
+use lib.Seq.{take-all, take-at, length-take-le}
+use borrow.Author.Tests.{ltb-true, eqb-true, eq-eqb, ne-eqb}
 use native.Mathlib.Nat.{mod-add-div}
 use native.Mathlib.Omega.{arith}
 use Rattle.base.proofs.Tests.{both}
-use Rattle.wordbytes.specs.Words.{wordBytes, bytesOf, wordsFrom, wordsIn, areBytes}
+use Rattle.wordbytes.specs.Words.{wordBytes, bytesOf, wordsFrom, wordsIn, even, areBytes}
 
 pub length-bytes : (ws : List ℕ) → length (bytesOf ws) ≡ 2 * length ws
 unfolding bytesOf
@@ -95,3 +95,36 @@ pub bytes-zeros : (n : ℕ) → bytesOf (replicate n 0) ≡ replicate (2 * n) 0
 unfolding bytesOf
 bytes-zeros zero = refl
 bytes-zeros (suc n) = let m : 2 * suc n ≡ suc (suc (2 * n)) = omega arith in rw (bytes-zeros n, m)
+
+-- ---- whole words
+
+pub even-yes : (words : List ℕ) → length words % 2 ≡ 0 → even words ≡ true
+unfolding even
+even-yes words h = eq-eqb (length words % 2) 0 h
+
+pub even-whole : (words : List ℕ) → even words ≡ true → length words % 2 ≡ 0
+unfolding even
+even-whole words e = eqb-true (length words % 2) 0 e
+
+pub even-no : (words : List ℕ) → (length words % 2 ≡ 0 → ⊥) → even words ≡ false
+unfolding even
+even-no words h = ne-eqb (length words % 2) 0 h
+
+-- ---- the words of some bytes, read into the first places of a buffer
+
+module _ (bytes room : List ℕ) (h : length bytes / 2 ≤ length room) where
+  pub lent-part : length (take (length bytes / 2) room) ≡ length bytes / 2
+  lent-part = length-take-le (length bytes / 2) room h
+
+  pub lent-fits : 2 * length (take (length bytes / 2) room) ≤ length bytes
+  lent-fits = omega (arith, lent-part)
+
+  module _ (last : List ℕ) (q : last ≡ wordsFrom (length (take (length bytes / 2) room)) bytes) where
+    pub read-all : take (length bytes / 2) (last ++ drop (length bytes / 2) room) ≡ wordsIn bytes
+    read-all =
+        let f : last ≡ wordsFrom (length bytes / 2) bytes = q ∙ ap (λ (k : ℕ). wordsFrom k bytes) lent-part in
+        let m : length last ≡ length bytes / 2 = ap length f ∙ length-words (length bytes / 2) bytes in
+        take-at last (drop (length bytes / 2) room) (length bytes / 2) m ∙ f ∙ sym (words-in bytes)
+
+    pub read-part : length (take (length bytes / 2) (last ++ drop (length bytes / 2) room)) ≡ length bytes / 2
+    read-part = ap length read-all ∙ ap length (words-in bytes) ∙ length-words (length bytes / 2) bytes

@@ -1,8 +1,8 @@
 -- Words travel as bytes, the low byte of each first.
-use Prim.Native.Nat.{ℕ, zero, suc, _+_, _/_}
+use Prim.Native.Nat.{ℕ, zero, suc, _+_, _/_, _%_}
 use mathlib.Core.Bool.{Bool, true, _&&_}
 use mathlib.Core.List.{List, [], _∷_}
-use lib.Dec.{ltb}
+use lib.Dec.{eqb, ltb}
 use lib.ListN.{length, getD, drop}
 use Rattle.base.specs.Words.{wordOf, lowOf, highOf}
 
@@ -28,6 +28,10 @@ wordsFrom (suc n) bytes = wordAt bytes 0 ∷ wordsFrom n (drop 2 bytes)
 -- all that a buffer of an even length holds
 unfoldable pub wordsIn : List ℕ → List ℕ
 wordsIn bytes = wordsFrom (length bytes / 2) bytes
+
+-- are there bytes for whole words?
+unfoldable pub even : List ℕ → Bool
+even bytes = eqb (length bytes % 2) 0
 
 -- ---- a list whose numbers are bytes
 

@@ -1,58 +1,48 @@
--- What was printed is the text, for which 32 bytes have room, and it is copied. Assumes nothing.
-use mathlib.Core.Path.{sym, ap, _∙_}
-use native.Mathlib.Omega.{arith}
-use lib.ListN.{length}
+-- Each arm writes the text of what the word decodes to; where it says nothing, nothing. Assumes nothing.
+use mathlib.Core.Path.{_≡_, sym, ap, _∙_}
+use Rattle.base.specs.Told.{is, no}
+use Rattle.base.specs.Numbers.{numberOf}
+use Rattle.instruction.specs.Decode.{told, decode}
+use Rattle.pen.proofs.PenLaws.{none}
 use borrow.Author.Needs.{needs}
-use Rattle.lister.proofs.TextLaws.{word-size, word-first, word-room}
 use Rattle.lister.proofs.decoding.put_word_text.Statement.{statement}
 use Rattle.lister.proofs.decoding.put_word_text.Tie as tie
 
-slice-aggregate-print-word : tie.Need-slice-aggregate-print-word
-slice-aggregate-print-word c = search needs
+decode-requires : tie.Need-decode-requires
+decode-requires c κs = search needs
 
-print-word-requires : tie.Need-print-word-requires
-print-word-requires c κs = search needs
+enum-known-d : tie.Need-enum-known-d
+enum-known-d c = search needs
 
-size-of-requires : tie.Need-size-of-requires
-size-of-requires c κs = search needs
+put-text-requires : tie.Need-put-text-requires
+put-text-requires c κs = search needs
 
-array-share-prefix-text : tie.Need-array-share-prefix-text
-array-share-prefix-text c =
-    let w = c .before .before .before .before .before .before .args .w in
-    let p = c .before .before .before .print-word in
-    omega (arith, word-room w (c .before .size-of .result) (p .result) _ (c .before .size-of .ensures) (p .ensures .0) (p .ensures .1))
-
-slice-aggregate-put-all : tie.Need-slice-aggregate-put-all
-slice-aggregate-put-all c =
-    let w = c .before .before .before .before .before .before .before .args .w in
-    let p = c .before .before .before .before .print-word in
-    let n = c .before .before .size-of in
-    word-size w (n .result) (p .result) _ (n .ensures) (p .ensures .0) (p .ensures .1)
-    ∙ sym (ap length (word-first w (n .result) (p .result) _ (n .ensures) (p .ensures .0) (p .ensures .1)))
-
-put-all-requires : tie.Need-put-all-requires
-put-all-requires c κs = search needs
+enum-told : tie.Need-enum-told
+enum-told c = search needs
 
 same-length : tie.Need-same-length
 same-length c = search needs
 
 returns : tie.Need-returns
 returns c =
-    let s = c .before .before .before .before .before in
-    let w = s .before .before .before .before .before .args .w in
-    let p = s .before .before .print-word in
-    c .before .before .put-all .ensures
-    ∙ rw (word-first w (s .size-of .result) (p .result) _ (s .size-of .ensures) (p .ensures .0) (p .ensures .1))
+    let d = c .before .before .before .before .before .before .before in
+    let e : decode (d .before .before .args .w) ≡ is (c .before .before .before .before .before .d .given .0 .0) = sym (d .decode .ensures) ∙ ap told (c .before .before .before .before .before .d .given .1) in
+    rw e (c .before .before .put-text .ensures)
+
+returns-2 : tie.Need-returns-2
+returns-2 c =
+    let d = c .before .before in
+    let e : decode (d .before .before .args .w) ≡ no (numberOf (c .enum-told .given .0 .0)) = sym (d .decode .ensures) ∙ ap told (c .enum-told .given .1) in
+    rw e (sym (none _))
 
 pub put-word-text-spec : {M : Type 1} → statement M
 put-word-text-spec =
     tie.close
     (tie.spec
-    slice-aggregate-print-word
-    print-word-requires
-    size-of-requires
-    array-share-prefix-text
-    slice-aggregate-put-all
-    put-all-requires
+    decode-requires
+    enum-known-d
+    put-text-requires
+    enum-told
     same-length
-    returns)
+    returns
+    returns-2)

@@ -1,7 +1,7 @@
 -- The pieces are the definition's, in its order. Assumes nothing.
 use mathlib.Core.Path.{_∙_}
 use Rattle.lister.specs.Listing.{line}
-use Rattle.lister.proofs.PenLaws.{joined}
+use Rattle.pen.proofs.PenLaws.{joined}
 use borrow.Author.Needs.{needs}
 use Rattle.lister.proofs.lines.line.Statement.{statement}
 use Rattle.lister.proofs.lines.line.Tie as tie

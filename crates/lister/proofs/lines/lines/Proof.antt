@@ -4,7 +4,7 @@ use Prim.Native.Nat.{_-_, _≤_}
 use denote.Ref.{now}
 use lib.ListN.{length, drop}
 use Rattle.lister.specs.Listing.{linesFrom}
-use Rattle.lister.specs.Pen.{pen, wrote}
+use Rattle.pen.specs.Pen.{pen, wrote}
 use Rattle.lister.proofs.LineLaws.{line-more, line-no-more}
 use borrow.Author.Needs.{needs}
 use Rattle.lister.proofs.lines.lines.Statement.{statement}

@@ -5,7 +5,7 @@ use denote.Ref.{now}
 use native.Mathlib.Omega.{arith}
 use lib.ListN.{length, length-take}
 use lib.Seq.{length-take-le}
-use Rattle.lister.proofs.PenLaws.{joined}
+use Rattle.pen.proofs.PenLaws.{joined}
 use borrow.Author.Needs.{needs}
 use Rattle.lister.proofs.listing.show.Statement.{statement}
 use Rattle.lister.proofs.listing.show.Tie as tie

@@ -8,7 +8,7 @@ use Rattle.memory.specs.Bytes.{lent}
 use Rattle.block.specs.Block.{isBlock}
 use Rattle.seamkettle.proofs.LoadLaws.{load-bad, load-odd, load-good, unnumbered}
 use Rattle.block.proofs.Laws.{block-length}
-use Rattle.seamkettle.proofs.TextLaws.{even-yes, even-no}
+use Rattle.wordbytes.proofs.Laws.{even-yes, even-no}
 use Rattle.seamkettle.proofs.programs.kettle_load.Statement.{statement}
 use Rattle.seamkettle.proofs.programs.kettle_load.Tie as tie
 

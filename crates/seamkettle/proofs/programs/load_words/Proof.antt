@@ -1,9 +1,11 @@
 -- The words that were read are loaded, or others that are too many likewise. Assumes nothing.
 use mathlib.Core.Path.{sym, _∙_}
 use denote.Ref.{now}
+use native.Mathlib.Omega.{arith}
 use borrow.Author.Needs.{needs}
+use Rattle.wordbytes.proofs.Laws.{lent-part, lent-fits, read-part}
 use Rattle.memory.specs.Bytes.{lent}
-use Rattle.seamkettle.proofs.LoadLaws.{load-many, load-read, lent-part, lent-fits, read-part}
+use Rattle.seamkettle.proofs.LoadLaws.{load-many, load-read}
 use Rattle.seamkettle.proofs.programs.load_words.Statement.{statement}
 use Rattle.seamkettle.proofs.programs.load_words.Tie as tie
 
@@ -38,14 +40,14 @@ slice-aggregate-read-words c =
     let s = c .before .before .before .before .before .before .before in
     let bytes = now (s .args .bytes) in
     let program = now (s .args .program) in
-    sym (lent-part bytes program (c .before .if1 .left) (s .pre))
+    sym (lent-part bytes program (omega (arith, c .before .if1 .left, s .pre)))
 
 read-words-requires : tie.Need-read-words-requires
 read-words-requires c κs =
     let s = c .before .before .before .before .before .before .before in
     let bytes = now (s .args .bytes) in
     let program = now (s .args .program) in
-    lent-fits bytes program (c .before .if1 .left) (s .pre)
+    lent-fits bytes program (omega (arith, c .before .if1 .left, s .pre))
 
 slice-reshare-prefix-write-program : tie.Need-slice-reshare-prefix-write-program
 slice-reshare-prefix-write-program c = search needs
@@ -56,7 +58,7 @@ slice-aggregate-write-program c =
     let s = r .before .before .before .before .before .before .before .before in
     let bytes = now (s .args .bytes) in
     let program = now (s .args .program) in
-    sym (read-part bytes program (r .before .before .if1 .left) (s .pre) (r .read-words .last .1 .0) (r .read-words .ensures))
+    sym (read-part bytes program (omega (arith, r .before .before .if1 .left, s .pre)) (r .read-words .last .1 .0) (r .read-words .ensures))
 
 write-program-requires-2 : tie.Need-write-program-requires-2
 write-program-requires-2 c κs = search needs
@@ -79,7 +81,7 @@ returns-2 c =
     let program = now (s .args .program) in
     let b = lent (now (s .args .memory)) (now (s .args .devices)) in
     let j = now (s .args .journal) in
-    let m = load-read (s .args .s) b j bytes program (r .before .before .if1 .left) (s .pre) (r .read-words .last .1 .0) (r .read-words .ensures) in
+    let m = load-read (s .args .s) b j bytes program (omega (arith, r .before .before .if1 .left, s .pre)) (r .read-words .last .1 .0) (r .read-words .ensures) in
     (w .0 ∙ m .0, (w .1 .0 ∙ m .1, w .1 .1 ∙ m .2))
 
 pub load-words-spec : {M : Type 1} → statement M

@@ -4,9 +4,10 @@ use mathlib.Core.Bool.{not, true, false}
 use denote.Ref.{now}
 use lib.Dec.{eqb}
 use borrow.Author.Needs.{needs}
+use Rattle.wordbytes.specs.Words.{even}
+use Rattle.wordbytes.proofs.Laws.{even-yes, even-no}
 use Rattle.asm.specs.Assemble.{reported}
-use Rattle.seamkettle.specs.Calls.{even}
-use Rattle.seamkettle.proofs.TextLaws.{even-yes, even-no, odd-number, odd-words, even-number, even-words}
+use Rattle.seamkettle.proofs.TextLaws.{odd-number, odd-words, even-number, even-words}
 use Rattle.seamkettle.proofs.texts.kettle_assemble.Statement.{statement}
 use Rattle.seamkettle.proofs.texts.kettle_assemble.Tie as tie
 

@@ -1,0 +1,16 @@
+pub mod AskLaws
+pub mod Numbers
+pub mod Names
+pub mod Spelled
+pub mod Printed
+pub mod Refers
+pub mod Longest
+pub mod MarkLaws
+pub mod LineLaws
+pub mod AnswerLaws
+pub mod ByteLaws
+pub mod Cases
+pub mod Resolve
+pub mod Whole
+pub mod Back
+pub mod NoText

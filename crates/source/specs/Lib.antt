@@ -1,0 +1,4 @@
+pub mod Words
+pub mod Source
+pub mod Marks
+pub mod Promises
