@@ -23,9 +23,9 @@ use Rattle.instruction.specs.declared.ArithmeticOp.TheVariants as seven
 use Rattle.arithmetic.specs.declared.Total.{Total}
 use Rattle.arithmetic.specs.declared.Total.TheVariants.{Is, Refused}
 use Rattle.arithmetic.specs.Totals.{total, fitted, sum, difference, product, quotient, remainder, power}
-use Rattle.arithmetic.specs.Operators.{arithResult, arithmeticResult}
+use Rattle.arithmetic.specs.Operators.{arith_result, arithmetic_result}
 use Rattle.arithmetic.specs.Shifts.{shifted, moved}
-use Rattle.arithmetic.specs.Roots.{rootUpTo, root}
+use Rattle.arithmetic.specs.Roots.{root_up_to, root}
 
 -- 01's sentence
 pub record IsRoot (v r : ℕ) : Type 0 where
@@ -49,12 +49,12 @@ at_most v r q h g = go (leb r q) refl
 pub roots-same : (v r q : ℕ) → IsRoot v r → IsRoot v q → r ≡ q
 roots-same v r q a b = le_antisymm (at_most v r q a.low b.high) (at_most v q r b.low a.high)
 
-up_to : (k v : ℕ) → v < (k + 1) * (k + 1) → IsRoot v (rootUpTo k v)
-unfolding rootUpTo
+up_to : (k v : ℕ) → v < (k + 1) * (k + 1) → IsRoot v (root_up_to k v)
+unfolding root_up_to
 up_to zero v h = record { low = zero-le; high = h }
 up_to (suc k) v h = go (leb (suc k * suc k) v) refl (up_to k v)
   where
-    go : (t : Bool) → leb (suc k * suc k) v ≡ t → (v < (k + 1) * (k + 1) → IsRoot v (rootUpTo k v)) → IsRoot v (cond t (suc k) (rootUpTo k v))
+    go : (t : Bool) → leb (suc k * suc k) v ≡ t → (v < (k + 1) * (k + 1) → IsRoot v (root_up_to k v)) → IsRoot v (cond t (suc k) (root_up_to k v))
     go true e r = record { low = leb-true (suc k * suc k) v e; high = h }
     go false e r = r (rw (add-one k) (leb-false (suc k * suc k) v e))
 
@@ -68,7 +68,7 @@ pub root-one : (v r : ℕ) → v < 65536 → IsRoot v r → r ≡ root v
 root-one v r h a = roots-same v r (root v) a (root_is v h)
 
 pub root-marked : (root 65024 ≡ 254) × (root 65025 ≡ 255)
-unfolding root rootUpTo
+unfolding root root_up_to
 root-marked = (refl, refl)
 
 -- ---- a result that fits, and one that does not
@@ -103,12 +103,12 @@ other-value : (t : Bool) (x k v : ℕ) → cond t (no k) (is x) ≡ is v → v �
 other-value true x k v e = absurd (let z : ◌≡◌ {A = ℕ} 0 1 = cc in omega arith)
 other-value false x k v e = cc
 
-root-bound : (k v : ℕ) → rootUpTo k v ≤ k
-unfolding rootUpTo
+root-bound : (k v : ℕ) → root_up_to k v ≤ k
+unfolding root_up_to
 root-bound zero v = zero-le
 root-bound (suc k) v = go (leb (suc k * suc k) v) (root-bound k v)
   where
-    go : (t : Bool) → rootUpTo k v ≤ k → cond t (suc k) (rootUpTo k v) ≤ suc k
+    go : (t : Bool) → root_up_to k v ≤ k → cond t (suc k) (root_up_to k v) ≤ suc k
     go true h = le_refl (suc k)
     go false h = le_trans h (le-suc k)
 
@@ -142,15 +142,15 @@ module _ (a b v : ℕ) where
     unfolding remainder
     remainder-fits e = subst⁻¹ (λ (n : ℕ). n < 65536) (other-value (eqb b 0) (a % b) 8 v e) (lt_of_le_of_lt (mod-le a b) h)
 
-pub arith-fits : (op : ArithOp) (a b v : ℕ) → a < 65536 → arithResult op a b ≡ is v → v < 65536
-unfolding arithResult
+pub arith-fits : (op : ArithOp) (a b v : ℕ) → a < 65536 → arith_result op a b ≡ is v → v < 65536
+unfolding arith_result
 arith-fits four.Add a b v h = sum_fits a b v
 arith-fits four.Sub a b v h = difference-fits a b v h
 arith-fits four.Mul a b v h = product-fits a b v
 arith-fits four.Div a b v h = quotient_fits a b v h
 
-pub arithmetic-fits : (op : ArithmeticOp) (a b v : ℕ) → a < 65536 → arithmeticResult op a b ≡ is v → v < 65536
-unfolding arithmeticResult
+pub arithmetic-fits : (op : ArithmeticOp) (a b v : ℕ) → a < 65536 → arithmetic_result op a b ≡ is v → v < 65536
+unfolding arithmetic_result
 arithmetic-fits seven.Add a b v h = sum_fits a b v
 arithmetic-fits seven.Sub a b v h = difference-fits a b v h
 arithmetic-fits seven.Mul a b v h = product-fits a b v
@@ -190,15 +190,15 @@ module _ (a b : ℕ) where
   divided-numbered : (v : ℕ) → Numbered 7 8 (cond (eqb b 0) (no 8) (is v))
   divided-numbered v = first-numbered (eqb b 0) v 8 7 8 (omega arith, omega arith)
 
-pub arith-numbered : (op : ArithOp) (a b : ℕ) → Numbered 7 8 (arithResult op a b)
-unfolding arithResult sum product quotient
+pub arith-numbered : (op : ArithOp) (a b : ℕ) → Numbered 7 8 (arith_result op a b)
+unfolding arith_result sum product quotient
 arith-numbered four.Add a b = fitted-numbered (a + b)
 arith-numbered four.Sub a b = difference-numbered a b
 arith-numbered four.Mul a b = fitted-numbered (a * b)
 arith-numbered four.Div a b = divided-numbered a b (a / b)
 
-pub arithmetic-numbered : (op : ArithmeticOp) (a b : ℕ) → Numbered 7 8 (arithmeticResult op a b)
-unfolding arithmeticResult sum product quotient remainder power
+pub arithmetic-numbered : (op : ArithmeticOp) (a b : ℕ) → Numbered 7 8 (arithmetic_result op a b)
+unfolding arithmetic_result sum product quotient remainder power
 arithmetic-numbered seven.Add a b = fitted-numbered (a + b)
 arithmetic-numbered seven.Sub a b = difference-numbered a b
 arithmetic-numbered seven.Mul a b = fitted-numbered (a * b)

@@ -8,17 +8,17 @@ use Rattle.instruction.specs.declared.ArithmeticOp.TheVariants as seven
 use Rattle.arithmetic.specs.Totals.{sum, difference, product, quotient, remainder, power}
 use Rattle.arithmetic.specs.Roots.{root}
 
-unfoldable pub arithResult : ArithOp → ℕ → ℕ → Told ℕ
-arithResult four.Add a b = sum a b
-arithResult four.Sub a b = difference a b
-arithResult four.Mul a b = product a b
-arithResult four.Div a b = quotient a b
+unfoldable pub arith_result : ArithOp → ℕ → ℕ → Told ℕ
+arith_result four.Add a b = sum a b
+arith_result four.Sub a b = difference a b
+arith_result four.Mul a b = product a b
+arith_result four.Div a b = quotient a b
 
-unfoldable pub arithmeticResult : ArithmeticOp → ℕ → ℕ → Told ℕ
-arithmeticResult seven.Add a b = sum a b
-arithmeticResult seven.Sub a b = difference a b
-arithmeticResult seven.Mul a b = product a b
-arithmeticResult seven.Div a b = quotient a b
-arithmeticResult seven.Mod a b = remainder a b
-arithmeticResult seven.Exp a b = power a b
-arithmeticResult seven.Sqrt a b = is (root a)
+unfoldable pub arithmetic_result : ArithmeticOp → ℕ → ℕ → Told ℕ
+arithmetic_result seven.Add a b = sum a b
+arithmetic_result seven.Sub a b = difference a b
+arithmetic_result seven.Mul a b = product a b
+arithmetic_result seven.Div a b = quotient a b
+arithmetic_result seven.Mod a b = remainder a b
+arithmetic_result seven.Exp a b = power a b
+arithmetic_result seven.Sqrt a b = is (root a)

@@ -3,10 +3,10 @@ use Rattle.std.specs.Prelude.{ℕ, zero, suc, ◌*◌, leb}
 use Rattle.base.specs.Choice.{cond}
 
 -- the greatest r of 0 to k with r*r <= v
-unfoldable pub rootUpTo : ℕ → ℕ → ℕ
-rootUpTo zero v = 0
-rootUpTo (suc k) v = cond (leb (suc k * suc k) v) (suc k) (rootUpTo k v)
+unfoldable pub root_up_to : ℕ → ℕ → ℕ
+root_up_to zero v = 0
+root_up_to (suc k) v = cond (leb (suc k * suc k) v) (suc k) (root_up_to k v)
 
 -- 256*256 is 65,536
 unfoldable pub root : ℕ → ℕ
-root v = rootUpTo 255 v
+root v = root_up_to 255 v

@@ -1,7 +1,7 @@
 // The operators of the two arithmetic instructions.
 ghost use Rattle.std.specs.Prelude.{◌≡◌};
 ghost use Rattle.arithmetic.specs.Totals.{total};
-ghost use Rattle.arithmetic.specs.Operators.{arithResult, arithmeticResult};
+ghost use Rattle.arithmetic.specs.Operators.{arith_result, arithmetic_result};
 
 use crate::Total;
 use crate::roots::root;
@@ -10,7 +10,7 @@ use instruction::{ArithOp, ArithmeticOp};
 
 // Arith's.
 pub fn arith(op: ArithOp, a: u16, b: u16) -> Total
-    ensures { total result ≡ arithResult op a b }
+    ensures { total result ≡ arith_result op a b }
 {
     match op {
         ArithOp::Add => sum(a, b),
@@ -22,7 +22,7 @@ pub fn arith(op: ArithOp, a: u16, b: u16) -> Total
 
 // ArithRegReg's. A root is of the first number, and ignores the second.
 pub fn arithmetic(op: ArithmeticOp, a: u16, b: u16) -> Total
-    ensures { total result ≡ arithmeticResult op a b }
+    ensures { total result ≡ arithmetic_result op a b }
 {
     match op {
         ArithmeticOp::Add => sum(a, b),

@@ -7,7 +7,7 @@ use Rattle.base.proofs.Laws.{number-one}
 use Rattle.base.specs.Told.{is}
 use Rattle.base.proofs.ToldLaws.{is_one, is-not-no, no_one}
 use Rattle.asm.specs.Assemble.{counts, refusal, reported}
-use Rattle.asm.specs.Reading.{Item, skip, label, says, refers, toldItem}
+use Rattle.asm.specs.Reading.{Item, skip, label, says, refers, told_item}
 use Rattle.asm.specs.declared.Assembled.{Assembled}
 use Rattle.asm.specs.declared.Assembled.TheVariants.{Accepted, Refused}
 use Rattle.asm.specs.declared.Line.{Line}
@@ -37,7 +37,7 @@ back (label start size) = Line.Label start size
 back (says i) = Line.Says i
 back (refers r start size) = Line.Refers r start size
 
-tells : (a : Line) (item : Item) → toldItem a ≡ is item → a ≡ back item
+tells : (a : Line) (item : Item) → told_item a ≡ is item → a ≡ back item
 unfolding back
 tells Line.Skip item e = ap back (is_one skip item e)
 tells (Line.Label start size) item e = ap back (is_one (label start size) item e)
@@ -45,7 +45,7 @@ tells (Line.Says i) item e = ap back (is_one (says i) item e)
 tells (Line.Refers r start size) item e = ap back (is_one (refers r start size) item e)
 tells (Line.Refused r) item e = is-not-no item (number_of r) (sym e)
 
-pub read_one : (a b : Line) → toldItem a ≡ toldItem b → a ≡ b
+pub read_one : (a b : Line) → told_item a ≡ told_item b → a ≡ b
 unfolding back
 read_one a Line.Skip e = tells a skip e
 read_one a (Line.Label start size) e = tells a (label start size) e

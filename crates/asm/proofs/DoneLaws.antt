@@ -9,9 +9,9 @@ use mathlib.Core.Path.{◌∙◌, ◌≡◌, ap, subst, sym}
 use native.Mathlib.Omega.{arith}
 use Rattle.asm.proofs.TurnLaws.{turn-says}
 use Rattle.asm.specs.Labels.{part}
-use Rattle.asm.specs.Reading.{toldItem}
-use Rattle.asm.specs.Views.{added, labelFor, name_at, slotFor, slot_of, turned, wordedOf, workOf}
-use Rattle.asm.specs.Words.{addInstruction}
+use Rattle.asm.specs.Reading.{told_item}
+use Rattle.asm.specs.Views.{added, label_for, name_at, slot_for, slot_of, turned, worded_of, work_of}
+use Rattle.asm.specs.Words.{add_instruction}
 use Rattle.asm.specs.Work.{labelled, references, task, turn}
 use Rattle.base.specs.Words.{doubled}
 use Rattle.labels.specs.Labels.{find, label, no_label}
@@ -32,7 +32,7 @@ module _ (strict : Bool) (text : List ℕ) (at : ℕ) (line : Line) (f : Found) 
   -- with this answer, and these words and open references after it, the line has done what it says
   abbrev Does : Turn → List ℕ → List Open → Line → Type 0
   Does r words' waiting' l = (ls : List Label) → length ls ≡ most → f ≡ find text (name_at text at l) (take n.labels ls) →
-      turned r words' (set ls (slotFor l f n.labels most) (labelFor l at n.words.0)) waiting' ≡ turn (task strict text (length words) most) at (toldItem l) (workOf n words ls waiting)
+      turned r words' (set ls (slot_for l f n.labels most) (label_for l at n.words.0)) waiting' ≡ turn (task strict text (length words) most) at (told_item l) (work_of n words ls waiting)
 
   abbrev pub Done : Turn → List ℕ → List Open → Type 0
   Done r words' waiting' = Does r words' waiting' line
@@ -48,8 +48,8 @@ module _ (strict : Bool) (text : List ℕ) (at : ℕ) (line : Line) (f : Found) 
   unfolding turn
   done_refused why q = subst (λ (l : Line). Does (Turn.Refused why) words waiting l) (sym q) (λ ls room e. same-table (Turn.Refused why) words waiting ls room)
 
-  pub done-says : (i : Instruction) → line ≡ Line.Says i → (r : Turn) (a : Added) (words' : List ℕ) → r ≡ wordedOf a n →
-      added a words' ≡ addInstruction strict (length words) i (take n.words.0 words) → Done r words' waiting
+  pub done-says : (i : Instruction) → line ≡ Line.Says i → (r : Turn) (a : Added) (words' : List ℕ) → r ≡ worded_of a n →
+      added a words' ≡ add_instruction strict (length words) i (take n.words.0 words) → Done r words' waiting
   unfolding turn
   done-says i q r a words' w e =
       subst (λ (l : Line). Does r words' waiting l) (sym q)
@@ -61,14 +61,14 @@ module _ (strict : Bool) (text : List ℕ) (at : ℕ) (line : Line) (f : Found) 
     pub done-label : line ≡ Line.Label start size →
         ((ls : List Label) → length ls ≡ most → f ≡ find text (part text (at + start) size) (take n.labels ls) →
         turned r words' (set ls (slot_of f n.labels) (label (at + start) size (doubled n.words.0))) waiting'
-        ≡ labelled (task strict text (length words) most) (at + start) size (workOf n words ls waiting)) →
+        ≡ labelled (task strict text (length words) most) (at + start) size (work_of n words ls waiting)) →
         Done r words' waiting'
     unfolding turn
     done-label q does = subst (λ (l : Line). Does r words' waiting' l) (sym q) does
 
     pub done-refers : (reference : Reference) → line ≡ Line.Refers reference start size →
         ((text' : List ℕ) → (ls : List Label) → (most' : ℕ) → f ≡ find text' (part text' (at + start) size) (take n.labels ls) →
-        turned r words' ls waiting' ≡ references (task strict text' (length words) most') reference (at + start) size (workOf n words ls waiting)) →
+        turned r words' ls waiting' ≡ references (task strict text' (length words) most') reference (at + start) size (work_of n words ls waiting)) →
         Done r words' waiting'
     unfolding turn
     done-refers reference q does =

@@ -10,7 +10,7 @@ use mathlib.Core.List.{List, [], ◌++◌, ◌∷◌}
 use mathlib.Core.Path.{◌∙◌, ◌≡◌, ap, refl, sym}
 use native.Mathlib.Omega.{arith}
 use Rattle.asm.specs.Labels.{define, part}
-use Rattle.asm.specs.Views.{count_of, defined, slot_of, used, usedOf}
+use Rattle.asm.specs.Views.{count_of, defined, slot_of, used, used_of}
 use Rattle.base.proofs.ToldLaws.{is-not-no, is_one}
 use Rattle.base.specs.Choice.{cond}
 use Rattle.base.specs.Numbers.{number_of}
@@ -36,7 +36,7 @@ none (Defined.Count n) k e = is-not-no n k e
 none (Defined.Refused r) k e = refl
 
 module _ (count most : ℕ) (h : count ≤ most) where
-  pub define-count : (f : Found) (d : Defined) → used d ≡ usedOf f count most → count_of d ≤ most
+  pub define-count : (f : Found) (d : Defined) → used d ≡ used_of f count most → count_of d ≤ most
   define-count (At i a) d u = omega (arith, counted d count u)
   define-count Nothing d u = go (ltb count most) refl u
     where
@@ -46,7 +46,7 @@ module _ (count most : ℕ) (h : count ≤ most) where
 
   -- in a table of `most` entries, of which the first `count` are used
   pub define-used : (text : List ℕ) (labels : List Label) (l : Label) → length labels ≡ most →
-      (f : Found) → f ≡ find text (part text l.place l.length) (take count labels) → (d : Defined) → used d ≡ usedOf f count most →
+      (f : Found) → f ≡ find text (part text l.place l.length) (take count labels) → (d : Defined) → used d ≡ used_of f count most →
       defined d (set labels (slot_of f count) l) ≡ define text most l (take count labels)
   unfolding define
   define-used text labels l room (At i a) e d u =

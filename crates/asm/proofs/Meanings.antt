@@ -12,7 +12,7 @@ use Rattle.base.specs.Told.{Told, is}
 use Rattle.base.specs.Words.{doubled}
 use Rattle.base.proofs.ToldLaws.{is_one}
 use Rattle.instruction.specs.declared.Instruction.{Instruction}
-use Rattle.text.specs.Lines.{lines, foreignLine}
+use Rattle.text.specs.Lines.{lines, foreign_line}
 use Rattle.parser.specs.declared.Reference.{Reference}
 use Rattle.parser.specs.References.{resolved}
 use Rattle.labels.specs.declared.Label.{Label}
@@ -20,26 +20,26 @@ use Rattle.labels.specs.declared.Found.{Found}
 use Rattle.labels.specs.declared.Found.TheVariants.{Nothing, At}
 use Rattle.labels.specs.Labels.{find}
 use Rattle.labels.specs.Labels as Labels
-use Rattle.labels.specs.Opens.{openTo}
+use Rattle.labels.specs.Opens.{open_to}
 use Rattle.asm.specs.Labels.{part, Patched, patch}
 use Rattle.asm.specs.Reading.{Item, skip, label, says, refers}
-use Rattle.asm.specs.Work.{Task, Work, nothing, refersTo, references, labelsAt, labelled}
+use Rattle.asm.specs.Work.{Task, Work, nothing, refers_to, references, labels_at, labelled}
 use Rattle.asm.specs.Work as Work
-use Rattle.asm.specs.Assemble.{accepted, refused, assembleFrom, assemble}
-use Rattle.asm.specs.Meaning.{Meant, itemsFrom, latest, later, either, refer, meant, meaning, defined, definitions, leadsTo}
+use Rattle.asm.specs.Assemble.{accepted, refused, assemble_from, assemble}
+use Rattle.asm.specs.Meaning.{Meant, items_from, latest, later, either, refer, meant, meaning, defined, definitions, leads_to}
 use Rattle.asm.proofs.Accepted.{both, said, opened, labelling}
 use Rattle.asm.proofs.Places.{Within, text-within}
 use Rattle.asm.proofs.Items.{follow, followed, refused-not}
 use Rattle.asm.proofs.Tables.{found-latest, defined-latest}
-use Rattle.asm.proofs.Slots.{Slot, done, waits, asMeant, slotWord, openFrom, becomes, settle, AllGood, map-end, map_snoc, map-length, open_done, open-waits, good-end, settled-none, settled-now}
+use Rattle.asm.proofs.Slots.{Slot, done, waits, as_meant, slot_word, open_from, becomes, settle, AllGood, map-end, map_snoc, map-length, open_done, open-waits, good-end, settled-none, settled-now}
 use Rattle.asm.proofs.Patches.{Shows, patched}
 
 module _ (t : Task) where
   -- the work after n instructions, these definitions, newest first, and these slots
   pub record Holds (n : ℕ) (before : List Label) (slots : List Slot) (w : Work) : Type 0 where
     pub count : length slots ≡ n
-    pub words : w.words ≡ map slotWord slots
-    pub waiting : w.waiting ≡ openFrom 0 slots
+    pub words : w.words ≡ map slot_word slots
+    pub waiting : w.waiting ≡ open_from 0 slots
     pub labels : (name : List ℕ) → latest t.text name w.labels ≡ latest t.text name before
     pub good : AllGood t.strict (length t.text) slots
 
@@ -48,7 +48,7 @@ module _ (t : Task) where
     pub total : ℕ
     pub slots : List Slot
     pub holds : Holds total before slots w
-    pub means : map asMeant slots ≡ ms
+    pub means : map as_meant slots ≡ ms
 
   means-also : (before : List Label) (ms ns : List Meant) (w : Work) → ms ≡ ns → Ends before ms w → Ends before ns w
   means-also before ms ns w e r = record { total = r.total; slots = r.slots; holds = r.holds; means = r.means ∙ e }
@@ -64,20 +64,20 @@ module _ (t : Task) where
         let s = said t w v i e in
         record {
           count = one_more (done i);
-          words = rw (s.words, h.words, map_snoc slotWord slots (done i));
+          words = rw (s.words, h.words, map_snoc slot_word slots (done i));
           waiting = s.waiting ∙ h.waiting ∙ sym (open_done 0 slots i);
           labels = λ name. ap (latest t.text name) s.labels ∙ h.labels name;
           good = good-end t.strict (length t.text) slots (done i) h.good s.rule;
         }
 
-    holds-opens : (r : Reference) (place size : ℕ) → place + size ≤ length t.text → Work.opens t (openTo place size (length w.words) r) w ≡ is v →
+    holds-opens : (r : Reference) (place size : ℕ) → place + size ≤ length t.text → Work.opens t (open_to place size (length w.words) r) w ≡ is v →
         Holds (n + 1) before (slots ++ waits r place size ∷ []) v
     holds-opens r place size l e =
-        let s = opened t w v (openTo place size (length w.words) r) e in
-        let k : length w.words ≡ 0 + length slots = omega (arith, ap length h.words, map-length slotWord slots) in
+        let s = opened t w v (open_to place size (length w.words) r) e in
+        let k : length w.words ≡ 0 + length slots = omega (arith, ap length h.words, map-length slot_word slots) in
         record {
           count = one_more (waits r place size);
-          words = rw (s.words, h.words, map_snoc slotWord slots (waits r place size));
+          words = rw (s.words, h.words, map_snoc slot_word slots (waits r place size));
           waiting = rw (s.waiting, k, h.waiting, open-waits 0 slots r place size);
           labels = λ name. ap (latest t.text name) s.labels ∙ h.labels name;
           good = good-end t.strict (length t.text) slots (waits r place size) h.good l;
@@ -96,10 +96,10 @@ module _ (t : Task) where
         name : List ℕ
         name = part t.text place size
 
-        known : leadsTo w.labels (find t.text name w.labels) ≡ latest t.text name before
+        known : leads_to w.labels (find t.text name w.labels) ≡ latest t.text name before
         known = found-latest t.text name w.labels ∙ h.labels name
 
-        go : (f : Found) → leadsTo w.labels f ≡ latest t.text name before → refersTo t r place size w f ≡ is v → Referred r name
+        go : (f : Found) → leads_to w.labels f ≡ latest t.text name before → refers_to t r place size w f ≡ is v → Referred r name
         go (At i a) q e =
             record {
               slot = done (resolved r a);
@@ -122,18 +122,18 @@ module _ (t : Task) where
         Holds n (Labels.label place size (doubled n) ∷ before) (map (becomes t.text (part t.text place size) (doubled n)) slots) v
     unfolding labelled
     holds-label place size l e =
-        let k : length w.words ≡ n = ap length h.words ∙ map-length slotWord slots ∙ h.count in
+        let k : length w.words ≡ n = ap length h.words ∙ map-length slot_word slots ∙ h.count in
         let name : List ℕ = part t.text place size in
         let entry : Label = Labels.label place size (doubled n) in
-        let s = labelling t w v entry (subst (λ (x : ℕ). labelsAt t (Labels.label place size (doubled x)) w ≡ is v) k e) in
+        let s = labelling t w v entry (subst (λ (x : ℕ). labels_at t (Labels.label place size (doubled x)) w ≡ is v) k e) in
         let p = patch-slots name (doubled n) s.patches s.patching in
         record {
           count = map-length (becomes t.text name (doubled n)) slots ∙ h.count;
           words = s.words ∙ p.words;
           waiting = s.waiting ∙ p.waiting;
           labels = λ other.
-              defined-latest t.text t.labelRoom entry w.labels v.labels l s.defines other ∙
-              ap (λ (x : Told ℕ). cond (Labels.isNamed t.text other entry) (is (doubled n)) x) (h.labels other);
+              defined-latest t.text t.label_room entry w.labels v.labels l s.defines other ∙
+              ap (λ (x : Told ℕ). cond (Labels.is_named t.text other entry) (is (doubled n)) x) (h.labels other);
           good = p.good;
         }
 
@@ -188,9 +188,9 @@ module _ (t : Task) where
 
   pub ended : (w : Work) → assemble t ≡ accepted w → Ends (definitions t.text) (meaning t.text) w
   unfolding assemble definitions meaning
-  ended w e = go (eqb (foreignLine 1 t.text) 0) e
+  ended w e = go (eqb (foreign_line 1 t.text) 0) e
     where
-      go : (b : Bool) → cond b (assembleFrom t (lines t.text) 0 0 nothing) (refused 26 (foreignLine 1 t.text)) ≡ accepted w →
-          Ends (defined [] 0 (itemsFrom 0 (lines t.text))) (meant t.text [] 0 (itemsFrom 0 (lines t.text))) w
-      go true q = ends (itemsFrom 0 (lines t.text)) 0 [] [] nothing w (text-within t.text) at_first (followed t w (lines t.text) 0 0 nothing q)
-      go false q = refused-not 26 (foreignLine 1 t.text) w q
+      go : (b : Bool) → cond b (assemble_from t (lines t.text) 0 0 nothing) (refused 26 (foreign_line 1 t.text)) ≡ accepted w →
+          Ends (defined [] 0 (items_from 0 (lines t.text))) (meant t.text [] 0 (items_from 0 (lines t.text))) w
+      go true q = ends (items_from 0 (lines t.text)) 0 [] [] nothing w (text-within t.text) at_first (followed t w (lines t.text) 0 0 nothing q)
+      go false q = refused-not 26 (foreign_line 1 t.text) w q

@@ -11,17 +11,17 @@ use lib.Seq.{drop-drop, take-append-le, drop-append-le}
 use Rattle.base.specs.Choice.{cond}
 use Rattle.base.specs.Told.{Told, is, no}
 use Rattle.base.specs.Words.{doubled}
-use Rattle.text.specs.Tokens.{consHead}
+use Rattle.text.specs.Tokens.{cons_head}
 use Rattle.text.specs.Lines.{lines}
 use Rattle.labels.specs.declared.Label.{Label}
 use Rattle.labels.specs.Labels as Labels
 use Rattle.labels.proofs.NameLaws.{names-within}
 use Rattle.asm.specs.Labels.{part}
-use Rattle.asm.specs.Meaning.{Meant, instruction, placed, itemsFrom, latest, later, meant, meaning}
-use Rattle.asm.specs.Named.{label, refers, nameItem, nameLabel, nameTold, nameLine, latestOf, laterOf, meantOf}
+use Rattle.asm.specs.Meaning.{Meant, instruction, placed, items_from, latest, later, meant, meaning}
+use Rattle.asm.specs.Named.{label, refers, name_item, name_label, name_told, name_line, latest_of, later_of, meant_of}
 use Rattle.asm.specs.Reading.{Item, read}
 use Rattle.asm.specs.Reading as Reading
-use Rattle.asm.proofs.Places.{toldEnd, Within, read-within, text-within}
+use Rattle.asm.proofs.Places.{told_end, Within, read-within, text-within}
 
 -- ---- names for places
 
@@ -31,12 +31,12 @@ module _ (text : List ℕ) where
   Known [] = Unit {0}
   Known (l ∷ ls) = (l.place + l.length ≤ length text) × Known ls
 
-  latest-named : (name : List ℕ) (ls : List Label) → Known ls → latest text name ls ≡ latestOf name (map (nameLabel text) ls)
+  latest-named : (name : List ℕ) (ls : List Label) → Known ls → latest text name ls ≡ latest_of name (map (name_label text) ls)
   latest-named name [] k = refl
   latest-named name (l ∷ ls) k = rw (names-within text name l.place l.length k.0, latest-named name ls k.1)
 
   later-named : (name : List ℕ) (n : ℕ) (items : List Item) → Within (length text) items →
-      later text name n items ≡ laterOf name n (map (nameItem text) items)
+      later text name n items ≡ later_of name n (map (name_item text) items)
   later-named name n [] k = refl
   later-named name n (Reading.skip ∷ items) k = later-named name n items k.1
   later-named name n (Reading.label place size ∷ items) k = rw (names-within text name place size k.0, later-named name n items k.1)
@@ -44,7 +44,7 @@ module _ (text : List ℕ) where
   later-named name n (Reading.refers r place size ∷ items) k = later-named name (n + 1) items k.1
 
   meant-named : (before : List Label) (n : ℕ) (items : List Item) → Known before → Within (length text) items →
-      meant text before n items ≡ meantOf (map (nameLabel text) before) n (map (nameItem text) items)
+      meant text before n items ≡ meant_of (map (name_label text) before) n (map (name_item text) items)
   meant-named before n [] b k = refl
   meant-named before n (Reading.skip ∷ items) b k = meant-named before n items b k.1
   meant-named before n (Reading.label place size ∷ items) b k =
@@ -70,7 +70,7 @@ module _ (text : List ℕ) where
       next : drop (at + 1) text ≡ xs
       next = sym (drop-drop 1 at text) ∙ ap (drop 1) h
 
-      go : (t : Bool) (ls : List (List ℕ)) → Stand (at + 1) ls → Stand at (cond t ([] ∷ ls) (consHead x ls))
+      go : (t : Bool) (ls : List (List ℕ)) → Stand (at + 1) ls → Stand at (cond t ([] ∷ ls) (cons_head x ls))
       go true ls f =
           let e : at + 1 ≡ at + 0 + 1 = omega arith in
           ((x ∷ xs, h), subst (λ (k : ℕ). Stand k ls) e f)
@@ -86,20 +86,20 @@ module _ (text : List ℕ) where
       sym (drop-drop start at text) ∙ ap (drop start) s.1 ∙ drop-append-le start l s.0 (omega arith) in
       ap (take size) e ∙ take-append-le size (drop start l) s.0 (omega (arith, length-drop start l))
 
-  line-named : (at : ℕ) (l : List ℕ) (r : Told Item) → Stands at l → toldEnd r ≤ length l → nameItem text (placed at r) ≡ nameTold l r
+  line-named : (at : ℕ) (l : List ℕ) (r : Told Item) → Stands at l → told_end r ≤ length l → name_item text (placed at r) ≡ name_told l r
   line-named at l (is Reading.skip) s h = refl
   line-named at l (is (Reading.label start size)) s h = ap label (part-line at l start size s h)
   line-named at l (is (Reading.says i)) s h = refl
   line-named at l (is (Reading.refers r start size)) s h = ap (refers r) (part-line at l start size s h)
   line-named at l (no n) s h = refl
 
-  items-named : (at : ℕ) (ls : List (List ℕ)) → Stand at ls → map (nameItem text) (itemsFrom at ls) ≡ map nameLine ls
+  items-named : (at : ℕ) (ls : List (List ℕ)) → Stand at ls → map (name_item text) (items_from at ls) ≡ map name_line ls
   items-named at [] k = refl
   items-named at (l ∷ ls) k = rw (line-named at l (read l) k.0 (read-within l), items-named (at + length l + 1) ls k.1)
 
 -- the two are one
-pub meaning-named : (text : List ℕ) → meaning text ≡ meantOf [] 0 (map nameLine (lines text))
+pub meaning-named : (text : List ℕ) → meaning text ≡ meant_of [] 0 (map name_line (lines text))
 unfolding meaning
 meaning-named text =
-    meant-named text [] 0 (itemsFrom 0 (lines text)) tt (text-within text) ∙
-    ap (meantOf [] 0) (items-named text 0 (lines text) (lines-stand text 0 text refl))
+    meant-named text [] 0 (items_from 0 (lines text)) tt (text-within text) ∙
+    ap (meant_of [] 0) (items-named text 0 (lines text) (lines-stand text 0 text refl))

@@ -10,9 +10,9 @@ use mathlib.Core.Path.{◌∙◌, ◌≡◌, ap, refl, sym}
 use native.Mathlib.Nat.{sub-zero}
 use native.Mathlib.Numerals.{add-one}
 use native.Mathlib.Omega.{arith}
-use Rattle.asm.specs.Labels.{Patched, addOpen, keep, patch, patchedOf}
-use Rattle.asm.specs.Views.{Kept, keptOf, left, patchOne, patchThis, put, stepped}
-use Rattle.asm.specs.Words.{wordOf}
+use Rattle.asm.specs.Labels.{Patched, add_open, keep, patch, patched_of}
+use Rattle.asm.specs.Views.{Kept, kept_of, left, patch_one, patch_this, put, stepped}
+use Rattle.asm.specs.Words.{word_of}
 use Rattle.base.proofs.ToldLaws.{is-not-no, is_one, no_one}
 use Rattle.base.specs.Choice.{cond}
 use Rattle.base.specs.Numbers.{number_of}
@@ -20,14 +20,14 @@ use Rattle.base.specs.Told.{Told, is, no, ◌>>=◌}
 use Rattle.labels.proofs.Laws.{opens-length, opens-set}
 use Rattle.labels.proofs.ListLaws.{drop-next, take-set, take_snoc}
 use Rattle.labels.specs.Labels.{names}
-use Rattle.labels.specs.Opens.{no_open, opens_of, referenceCode}
+use Rattle.labels.specs.Opens.{no_open, opens_of, reference_code}
 use Rattle.parser.specs.References.{resolved}
 use Rattle.labels.specs.declared.Open.{Open}
 use Rattle.asm.specs.declared.patching.Left.{Left}
 use Rattle.asm.specs.declared.patching.Left.TheVariants as Left
 
 pub opens-stored : (ps ls ws rs ps' ls' ws' rs' : List ℕ) (i : ℕ) (o : Open) → ps' ≡ set ps i o.place → ls' ≡ set ls i o.length → ws' ≡ set ws i o.word.0 →
-    rs' ≡ set rs i (referenceCode o.reference) → opens_of ps' ls' ws' rs' ≡ set (opens_of ps ls ws rs) i o
+    rs' ≡ set rs i (reference_code o.reference) → opens_of ps' ls' ws' rs' ≡ set (opens_of ps ls ws rs) i o
 opens-stored ps ls ws rs ps' ls' ws' rs' i o p q r s = rw (p, q, r, s) (opens-set ps ls ws rs i o.place o.length o.word.0 o.reference)
 
 -- arrays of one length have as many entries
@@ -37,21 +37,21 @@ opens-same ps ls ws rs ps' ls' ws' rs' p q r s = opens-length ps' ls' ws' rs' �
 
 -- one more
 module _ (waiting : List Open) (count : ℕ) (o : Open) (h : 512 ≤ length waiting) where
-  pub add-open-next : count < 512 → is (take (count + 1) (set waiting count o)) ≡ addOpen o (take count waiting)
-  unfolding addOpen
+  pub add-open-next : count < 512 → is (take (count + 1) (set waiting count o)) ≡ add_open o (take count waiting)
+  unfolding add_open
   add-open-next few =
       let l : length (take count waiting) ≡ count = length-take-le count waiting (omega arith) in
       rw (l, lt-ltb count 512 few) (ap is (take_snoc waiting count o (omega arith)))
 
-  pub add-open-full : count ≤ 512 → 512 ≤ count → no 28 ≡ addOpen o (take count waiting)
-  unfolding addOpen
+  pub add-open-full : count ≤ 512 → 512 ≤ count → no 28 ≡ add_open o (take count waiting)
+  unfolding add_open
   add-open-full few many =
       let l : length (take count waiting) ≡ count = length-take-le count waiting (omega arith) in
       rw (l, le-ltb count 512 many)
 
 -- the kept references before what is left to patch
 abbrev pub prepend : List Open → Told Patched → Told Patched
-prepend kept (is p) = is (patchedOf p.words (kept ++ p.waiting))
+prepend kept (is p) = is (patched_of p.words (kept ++ p.waiting))
 prepend kept (no n) = no n
 
 pub prepend-none : (x : Told Patched) → prepend [] x ≡ x
@@ -59,7 +59,7 @@ prepend-none (is p) = refl
 prepend-none (no n) = refl
 
 prepend-keep : (kept : List Open) (o : Open) (x : Told Patched) → prepend kept (◌>>=◌ x (λ p. is (keep o p))) ≡ prepend (kept ++ (o ∷ [])) x
-prepend-keep kept o (is p) = ap (λ (w : List Open). is (patchedOf p.words w)) (sym (append_assoc kept (o ∷ []) p.waiting))
+prepend-keep kept o (is p) = ap (λ (w : List Open). is (patched_of p.words w)) (sym (append_assoc kept (o ∷ []) p.waiting))
 prepend-keep kept o (no n) = refl
 
 module _ (strict : Bool) (text name : List ℕ) (address : ℕ) where
@@ -81,114 +81,114 @@ module _ (strict : Bool) (text name : List ℕ) (address : ℕ) where
         prepend-keep (take kept waiting) o (patch strict text name address x words) ∙ ap (λ (y : List Open). prepend y (patch strict text name address x words)) (sym e)
 
     one : (o : Open) → prepend (take kept waiting) (patch strict text name address (o ∷ take (m - (i + 1)) (drop (i + 1) waiting)) words)
-        ≡ ◌>>=◌ (patchThis strict text name address o kept words waiting) (λ s. left-to-patch m (i + 1) s.count s.waiting s.words)
+        ≡ ◌>>=◌ (patch_this strict text name address o kept words waiting) (λ s. left-to-patch m (i + 1) s.count s.waiting s.words)
     unfolding patch
     one o = go (names text o.place o.length name)
       where
         settled : (x : Told ℕ) →
             prepend (take kept waiting) (◌>>=◌ x (λ w. patch strict text name address (take (m - (i + 1)) (drop (i + 1) waiting)) (set words o.word.0 w)))
-            ≡ ◌>>=◌ (◌>>=◌ x (λ w. is (keptOf kept (set words o.word.0 w) waiting))) (λ s. left-to-patch m (i + 1) s.count s.waiting s.words)
+            ≡ ◌>>=◌ (◌>>=◌ x (λ w. is (kept_of kept (set words o.word.0 w) waiting))) (λ s. left-to-patch m (i + 1) s.count s.waiting s.words)
         settled (is w) = refl
         settled (no n) = refl
 
         go : (t : Bool) →
             prepend (take kept waiting) (cond t
-            (◌>>=◌ (wordOf strict (resolved o.reference address)) (λ w. patch strict text name address (take (m - (i + 1)) (drop (i + 1) waiting)) (set words o.word.0 w)))
+            (◌>>=◌ (word_of strict (resolved o.reference address)) (λ w. patch strict text name address (take (m - (i + 1)) (drop (i + 1) waiting)) (set words o.word.0 w)))
             (◌>>=◌ (patch strict text name address (take (m - (i + 1)) (drop (i + 1) waiting)) words) (λ p. is (keep o p))))
             ≡ ◌>>=◌ (cond t
-            (◌>>=◌ (wordOf strict (resolved o.reference address)) (λ w. is (keptOf kept (set words o.word.0 w) waiting)))
-            (is (keptOf (kept + 1) words (set waiting kept o)))) (λ s. left-to-patch m (i + 1) s.count s.waiting s.words)
-        go true = settled (wordOf strict (resolved o.reference address))
+            (◌>>=◌ (word_of strict (resolved o.reference address)) (λ w. is (kept_of kept (set words o.word.0 w) waiting)))
+            (is (kept_of (kept + 1) words (set waiting kept o)))) (λ s. left-to-patch m (i + 1) s.count s.waiting s.words)
+        go true = settled (word_of strict (resolved o.reference address))
         go false = kept-one o (take (m - (i + 1)) (drop (i + 1) waiting)) ∙
             ap (λ (x : List Open). prepend (take (kept + 1) (set waiting kept o)) (patch strict text name address (take (m - (i + 1)) x) words)) (sym (drop-set-lt (i + 1) waiting kept o (omega arith)))
 
     pub patch-turn : left-to-patch m i kept waiting words
-        ≡ ◌>>=◌ (patchOne strict text name address i kept words waiting) (λ s. left-to-patch m (i + 1) s.count s.waiting s.words)
-    unfolding patchOne
+        ≡ ◌>>=◌ (patch_one strict text name address i kept words waiting) (λ s. left-to-patch m (i + 1) s.count s.waiting s.words)
+    unfolding patch_one
     patch-turn = ap (λ (x : List Open). prepend (take kept waiting) (patch strict text name address x words)) next ∙ one (get_or waiting i no_open)
 
-    pub patch-go : (s : Kept) → is s ≡ patchOne strict text name address i kept words waiting → left-to-patch m (i + 1) s.count s.waiting s.words ≡ left-to-patch m i kept waiting words
+    pub patch-go : (s : Kept) → is s ≡ patch_one strict text name address i kept words waiting → left-to-patch m (i + 1) s.count s.waiting s.words ≡ left-to-patch m i kept waiting words
     patch-go s e = sym (patch-turn ∙ ap (λ (x : Told Kept). ◌>>=◌ x (λ s. left-to-patch m (i + 1) s.count s.waiting s.words)) (sym e))
 
-    pub patch-stop : (n : ℕ) → no n ≡ patchOne strict text name address i kept words waiting → no n ≡ left-to-patch m i kept waiting words
+    pub patch-stop : (n : ℕ) → no n ≡ patch_one strict text name address i kept words waiting → no n ≡ left-to-patch m i kept waiting words
     patch-stop n e = sym (patch-turn ∙ ap (λ (x : Told Kept). ◌>>=◌ x (λ s. left-to-patch m (i + 1) s.count s.waiting s.words)) (sym e))
 
     -- one more is kept, or none
-    pub patch-kept : (s : Kept) → is s ≡ patchOne strict text name address i kept words waiting → s.count ≤ i + 1
-    unfolding patchOne
+    pub patch-kept : (s : Kept) → is s ≡ patch_one strict text name address i kept words waiting → s.count ≤ i + 1
+    unfolding patch_one
     patch-kept s e = go (names text o.place o.length name) e
       where
         o : Open
         o = get_or waiting i no_open
 
-        settled : (x : Told ℕ) → is s ≡ ◌>>=◌ x (λ w. is (keptOf kept (set words o.word.0 w) waiting)) → s.count ≤ i + 1
-        settled (is w) q = omega (arith, ap (λ (y : Kept). y.count) (is_one s (keptOf kept (set words o.word.0 w) waiting) q))
+        settled : (x : Told ℕ) → is s ≡ ◌>>=◌ x (λ w. is (kept_of kept (set words o.word.0 w) waiting)) → s.count ≤ i + 1
+        settled (is w) q = omega (arith, ap (λ (y : Kept). y.count) (is_one s (kept_of kept (set words o.word.0 w) waiting) q))
         settled (no n) q = is-not-no s n q
 
         go : (t : Bool) → is s ≡ cond t
-            (◌>>=◌ (wordOf strict (resolved o.reference address)) (λ w. is (keptOf kept (set words o.word.0 w) waiting)))
-            (is (keptOf (kept + 1) words (set waiting kept o))) → s.count ≤ i + 1
-        go true q = settled (wordOf strict (resolved o.reference address)) q
-        go false q = omega (arith, ap (λ (y : Kept). y.count) (is_one s (keptOf (kept + 1) words (set waiting kept o)) q))
+            (◌>>=◌ (word_of strict (resolved o.reference address)) (λ w. is (kept_of kept (set words o.word.0 w) waiting)))
+            (is (kept_of (kept + 1) words (set waiting kept o))) → s.count ≤ i + 1
+        go true q = settled (word_of strict (resolved o.reference address)) q
+        go false q = omega (arith, ap (λ (y : Kept). y.count) (is_one s (kept_of (kept + 1) words (set waiting kept o)) q))
 
   pub patch-begin : (m : ℕ) (waiting : List Open) (words : List ℕ) → left-to-patch m 0 0 waiting words ≡ patch strict text name address (take m waiting) words
   patch-begin m waiting words = prepend-none (patch strict text name address (take (m - 0) waiting) words) ∙ ap (λ (n : ℕ). patch strict text name address (take n waiting) words) (sub-zero m)
 
-  pub patch-end : (m kept : ℕ) (waiting : List Open) (words : List ℕ) → is (patchedOf words (take kept waiting)) ≡ left-to-patch m m kept waiting words
+  pub patch-end : (m kept : ℕ) (waiting : List Open) (words : List ℕ) → is (patched_of words (take kept waiting)) ≡ left-to-patch m m kept waiting words
   unfolding patch
   patch-end m kept waiting words =
       let z : m - m ≡ 0 = omega arith in
-      rw z (ap (λ (w : List Open). is (patchedOf words w)) (sym (append-nil (take kept waiting))))
+      rw z (ap (λ (w : List Open). is (patched_of words w)) (sym (append-nil (take kept waiting))))
 
   -- patching the first n words
   pub patch-take : (n : ℕ) (waiting : List Open) (words : List ℕ) →
-      patch strict text name address waiting (take n words) ≡ ◌>>=◌ (patch strict text name address waiting words) (λ p. is (patchedOf (take n p.words) p.waiting))
+      patch strict text name address waiting (take n words) ≡ ◌>>=◌ (patch strict text name address waiting words) (λ p. is (patched_of (take n p.words) p.waiting))
   unfolding patch
   patch-take n [] words = refl
   patch-take n (o ∷ waiting) words = go (names text o.place o.length name) (λ w. patch-take n waiting (set words o.word.0 w)) (patch-take n waiting words)
     where
       settled : (x : Told ℕ) →
-          ((w : ℕ) → patch strict text name address waiting (take n (set words o.word.0 w)) ≡ ◌>>=◌ (patch strict text name address waiting (set words o.word.0 w)) (λ p. is (patchedOf (take n p.words) p.waiting))) →
+          ((w : ℕ) → patch strict text name address waiting (take n (set words o.word.0 w)) ≡ ◌>>=◌ (patch strict text name address waiting (set words o.word.0 w)) (λ p. is (patched_of (take n p.words) p.waiting))) →
           ◌>>=◌ x (λ w. patch strict text name address waiting (set (take n words) o.word.0 w))
-          ≡ ◌>>=◌ (◌>>=◌ x (λ w. patch strict text name address waiting (set words o.word.0 w))) (λ p. is (patchedOf (take n p.words) p.waiting))
+          ≡ ◌>>=◌ (◌>>=◌ x (λ w. patch strict text name address waiting (set words o.word.0 w))) (λ p. is (patched_of (take n p.words) p.waiting))
       settled (is w) ih = ap (λ (ws : List ℕ). patch strict text name address waiting ws) (sym (take-set n words o.word.0 w)) ∙ ih w
       settled (no k) ih = refl
 
-      kept : (x y : Told Patched) → x ≡ ◌>>=◌ y (λ p. is (patchedOf (take n p.words) p.waiting)) →
-          ◌>>=◌ x (λ p. is (keep o p)) ≡ ◌>>=◌ (◌>>=◌ y (λ p. is (keep o p))) (λ p. is (patchedOf (take n p.words) p.waiting))
+      kept : (x y : Told Patched) → x ≡ ◌>>=◌ y (λ p. is (patched_of (take n p.words) p.waiting)) →
+          ◌>>=◌ x (λ p. is (keep o p)) ≡ ◌>>=◌ (◌>>=◌ y (λ p. is (keep o p))) (λ p. is (patched_of (take n p.words) p.waiting))
       kept x (is p) e = rw e
       kept x (no k) e = rw e
 
       go : (t : Bool) →
-          ((w : ℕ) → patch strict text name address waiting (take n (set words o.word.0 w)) ≡ ◌>>=◌ (patch strict text name address waiting (set words o.word.0 w)) (λ p. is (patchedOf (take n p.words) p.waiting))) →
-          patch strict text name address waiting (take n words) ≡ ◌>>=◌ (patch strict text name address waiting words) (λ p. is (patchedOf (take n p.words) p.waiting)) →
-          cond t (◌>>=◌ (wordOf strict (resolved o.reference address)) (λ w. patch strict text name address waiting (set (take n words) o.word.0 w)))
+          ((w : ℕ) → patch strict text name address waiting (take n (set words o.word.0 w)) ≡ ◌>>=◌ (patch strict text name address waiting (set words o.word.0 w)) (λ p. is (patched_of (take n p.words) p.waiting))) →
+          patch strict text name address waiting (take n words) ≡ ◌>>=◌ (patch strict text name address waiting words) (λ p. is (patched_of (take n p.words) p.waiting)) →
+          cond t (◌>>=◌ (word_of strict (resolved o.reference address)) (λ w. patch strict text name address waiting (set (take n words) o.word.0 w)))
           (◌>>=◌ (patch strict text name address waiting (take n words)) (λ p. is (keep o p)))
-          ≡ ◌>>=◌ (cond t (◌>>=◌ (wordOf strict (resolved o.reference address)) (λ w. patch strict text name address waiting (set words o.word.0 w)))
-          (◌>>=◌ (patch strict text name address waiting words) (λ p. is (keep o p)))) (λ p. is (patchedOf (take n p.words) p.waiting))
-      go true ih1 ih2 = settled (wordOf strict (resolved o.reference address)) ih1
+          ≡ ◌>>=◌ (cond t (◌>>=◌ (word_of strict (resolved o.reference address)) (λ w. patch strict text name address waiting (set words o.word.0 w)))
+          (◌>>=◌ (patch strict text name address waiting words) (λ p. is (keep o p)))) (λ p. is (patched_of (take n p.words) p.waiting))
+      go true ih1 ih2 = settled (word_of strict (resolved o.reference address)) ih1
       go false ih1 ih2 = kept (patch strict text name address waiting (take n words)) (patch strict text name address waiting words) ih2
 
 -- one open reference, as the code looks at it
 module _ (strict : Bool) (text name : List ℕ) (address : ℕ) where
   pub patch-this : (i kept : ℕ) (words : List ℕ) (waiting : List Open) (o : Open) → o ≡ get_or waiting i no_open →
-      patchThis strict text name address o kept words waiting ≡ patchOne strict text name address i kept words waiting
-  unfolding patchOne
-  patch-this i kept words waiting o e = ap (λ (x : Open). patchThis strict text name address x kept words waiting) e
+      patch_this strict text name address o kept words waiting ≡ patch_one strict text name address i kept words waiting
+  unfolding patch_one
+  patch-this i kept words waiting o e = ap (λ (x : Open). patch_this strict text name address x kept words waiting) e
 
   module _ (kept : ℕ) (words : List ℕ) where
     pub patch-hit : (words' : List ℕ) (waiting : List Open) (o : Open) (l : Left) → names text o.place o.length name ≡ true →
-        left l ≡ ◌>>=◌ (wordOf strict (resolved o.reference address)) (λ w. is kept) → words' ≡ put (wordOf strict (resolved o.reference address)) o.word.0 words →
-        stepped l words' waiting ≡ patchThis strict text name address o kept words waiting
-    patch-hit words' waiting o l t e q = rw (t, q) (go l (wordOf strict (resolved o.reference address)) e)
+        left l ≡ ◌>>=◌ (word_of strict (resolved o.reference address)) (λ w. is kept) → words' ≡ put (word_of strict (resolved o.reference address)) o.word.0 words →
+        stepped l words' waiting ≡ patch_this strict text name address o kept words waiting
+    patch-hit words' waiting o l t e q = rw (t, q) (go l (word_of strict (resolved o.reference address)) e)
       where
         go : (l : Left) (x : Told ℕ) → left l ≡ ◌>>=◌ x (λ w. is kept) →
-            stepped l (put x o.word.0 words) waiting ≡ ◌>>=◌ x (λ w. is (keptOf kept (set words o.word.0 w) waiting))
-        go (Left.Count n) (is w) e = ap (λ (k : ℕ). is (keptOf k (set words o.word.0 w) waiting)) (is_one n kept e)
+            stepped l (put x o.word.0 words) waiting ≡ ◌>>=◌ x (λ w. is (kept_of kept (set words o.word.0 w) waiting))
+        go (Left.Count n) (is w) e = ap (λ (k : ℕ). is (kept_of k (set words o.word.0 w) waiting)) (is_one n kept e)
         go (Left.Count n) (no k) e = is-not-no n k e
         go (Left.Refused r) (is w) e = is-not-no kept (number_of r) (sym e)
         go (Left.Refused r) (no k) e = ap (λ (n : ℕ). no n) (no_one (number_of r) k e)
 
     pub patch-miss : (waiting : List Open) (o : Open) → names text o.place o.length name ≡ false →
-        is (keptOf (kept + 1) words (set waiting kept o)) ≡ patchThis strict text name address o kept words waiting
+        is (kept_of (kept + 1) words (set waiting kept o)) ≡ patch_this strict text name address o kept words waiting
     patch-miss waiting o t = rw t

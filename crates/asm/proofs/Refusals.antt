@@ -17,7 +17,7 @@ use Rattle.instruction.specs.declared.Instruction.{Instruction}
 use Rattle.instruction.specs.Encode.{encode}
 use Rattle.instruction.specs.Fits.{fits, decodable}
 use Rattle.instruction.proofs.RoundTrip.{register-cjp-only}
-use Rattle.text.specs.Parts.{isBlank, run, dropFront, dropEnd}
+use Rattle.text.specs.Parts.{is_blank, run, drop_front, drop_end}
 use Rattle.text.specs.Tokens.{tokens}
 use Rattle.parser.specs.declared.Reference.{Reference}
 use Rattle.parser.specs.declared.Reference.TheVariants as reference
@@ -32,24 +32,24 @@ use Rattle.labels.specs.declared.Open.{Open}
 use Rattle.labels.specs.declared.Found.{Found}
 use Rattle.labels.specs.declared.Found.TheVariants.{Nothing, At}
 use Rattle.labels.specs.Labels.{names, find, label}
-use Rattle.labels.specs.Opens.{openTo}
-use Rattle.asm.specs.Words.{strictOrder, strictWord, wordOf, addWord, addInstruction}
-use Rattle.asm.specs.Labels.{part, entered, define, addOpen, Patched, keep, patch}
-use Rattle.asm.specs.Reading.{Item, readTrimmed, nameIn, said, read}
+use Rattle.labels.specs.Opens.{open_to}
+use Rattle.asm.specs.Words.{strict_order, strict_word, word_of, add_word, add_instruction}
+use Rattle.asm.specs.Labels.{part, entered, define, add_open, Patched, keep, patch}
+use Rattle.asm.specs.Reading.{Item, read_trimmed, name_in, said, read}
 use Rattle.asm.specs.Reading as Reading
 use Rattle.asm.specs.Strict.{Cjp, StrictRefuses}
-use Rattle.asm.specs.Work.{Task, Work, work, with_words, says, opens, refersTo, references, labelled, turn}
+use Rattle.asm.specs.Work.{Task, Work, work, with_words, says, opens, refers_to, references, labelled, turn}
 
 -- ---- words
 
 -- plain assembly refuses none, and strict with 30 what decodes back
-word-numbered : (strict : Bool) (i : Instruction) → (strict ≡ true → decodable i ≡ true) → Numbered 20 30 (wordOf strict i)
-unfolding wordOf strictWord strictOrder
+word-numbered : (strict : Bool) (i : Instruction) → (strict ≡ true → decodable i ≡ true) → Numbered 20 30 (word_of strict i)
+unfolding word_of strict_word strict_order
 word-numbered true i d = rw (d refl) (first-numbered (not (fits i)) (encode i) 30 20 30 (omega arith, omega arith))
 word-numbered false i d = tt
 
-add-numbered : (room w : ℕ) (words : List ℕ) → Numbered 20 30 (addWord room w words)
-unfolding addWord
+add-numbered : (room w : ℕ) (words : List ℕ) → Numbered 20 30 (add_word room w words)
+unfolding add_word
 add-numbered room w words =
     or-numbered (ltb (length words) room && ltb (length words) 32767) (words ++ w ∷ []) 29 20 30 (omega arith, omega arith)
 
@@ -69,37 +69,37 @@ patch-numbered strict text name a (o ∷ waiting) words =
     then w = patch strict text name a waiting (set words o.word.0 w)
 
     go : (t : Bool) → ((w : ℕ) → Numbered 20 30 (then w)) → Numbered 20 30 (patch strict text name a waiting words) →
-        Numbered 20 30 (cond t (◌>>=◌ (wordOf strict (resolved o.reference a)) then) (◌>>=◌ (patch strict text name a waiting words) (λ p. is (keep o p))))
+        Numbered 20 30 (cond t (◌>>=◌ (word_of strict (resolved o.reference a)) then) (◌>>=◌ (patch strict text name a waiting words) (λ p. is (keep o p))))
     go true k h =
-        then-numbered 20 30 (wordOf strict (resolved o.reference a)) then (word-numbered strict (resolved o.reference a) (λ e. resolved-decodable o.reference a)) k
+        then-numbered 20 30 (word_of strict (resolved o.reference a)) then (word-numbered strict (resolved o.reference a) (λ e. resolved-decodable o.reference a)) k
     go false k h = then-numbered 20 30 (patch strict text name a waiting words) (λ p. is (keep o p)) h (λ p. tt)
 
 -- ---- what a line does
 
 module _ (t : Task) (w : Work) where
   says-numbered : (i : Instruction) → (t.strict ≡ true → decodable i ≡ true) → Numbered 20 30 (says t i w)
-  unfolding says addInstruction
+  unfolding says add_instruction
   says-numbered i d =
-      then-numbered 20 30 (addInstruction t.strict t.wordRoom i w.words) (λ words. is (with_words w words))
-      (then-numbered 20 30 (wordOf t.strict i) (λ x. addWord t.wordRoom x w.words) (word-numbered t.strict i d)
-      (λ x. add-numbered t.wordRoom x w.words))
+      then-numbered 20 30 (add_instruction t.strict t.word_room i w.words) (λ words. is (with_words w words))
+      (then-numbered 20 30 (word_of t.strict i) (λ x. add_word t.word_room x w.words) (word-numbered t.strict i d)
+      (λ x. add-numbered t.word_room x w.words))
       (λ words. tt)
 
   opens-numbered : (o : Open) → Numbered 20 30 (opens t o w)
-  unfolding opens addOpen
+  unfolding opens add_open
   opens-numbered o =
-      then-numbered 20 30 (addWord t.wordRoom 0 w.words) (λ words. ◌>>=◌ (addOpen o w.waiting) (λ waiting. is (work words w.labels waiting)))
-      (add-numbered t.wordRoom 0 w.words)
-      (λ words. then-numbered 20 30 (addOpen o w.waiting) (λ waiting. is (work words w.labels waiting))
+      then-numbered 20 30 (add_word t.word_room 0 w.words) (λ words. ◌>>=◌ (add_open o w.waiting) (λ waiting. is (work words w.labels waiting)))
+      (add-numbered t.word_room 0 w.words)
+      (λ words. then-numbered 20 30 (add_open o w.waiting) (λ waiting. is (work words w.labels waiting))
       (or-numbered (ltb (length w.waiting) 512) (w.waiting ++ o ∷ []) 28 20 30 (omega arith, omega arith)) (λ waiting. tt))
 
   references-numbered : (r : Reference) (place size : ℕ) → Numbered 20 30 (references t r place size w)
   unfolding references
   references-numbered r place size = go (find t.text (part t.text place size) w.labels)
     where
-      go : (f : Found) → Numbered 20 30 (refersTo t r place size w f)
+      go : (f : Found) → Numbered 20 30 (refers_to t r place size w f)
       go (At i a) = says-numbered (resolved r a) (λ e. resolved-decodable r a)
-      go Nothing = opens-numbered (openTo place size (length w.words) r)
+      go Nothing = opens-numbered (open_to place size (length w.words) r)
 
   pub label-numbered : (place size : ℕ) → Numbered 20 30 (labelled t place size w)
   unfolding labelled define
@@ -108,14 +108,14 @@ module _ (t : Task) (w : Work) where
       let name = part t.text place size in
       let patches = patch t.strict t.text name l.address w.waiting w.words in
       let next : List Label → Told Work = λ labels. ◌>>=◌ patches (λ p. is (work p.words labels p.waiting)) in
-      then-numbered 20 30 (entered t.labelRoom l w.labels (find t.text name w.labels)) next
+      then-numbered 20 30 (entered t.label_room l w.labels (find t.text name w.labels)) next
       (go (find t.text name w.labels))
       (λ labels. then-numbered 20 30 patches (λ p. is (work p.words labels p.waiting))
       (patch-numbered t.strict t.text name l.address w.waiting w.words) (λ p. tt))
     where
-      go : (f : Found) → Numbered 20 30 (entered t.labelRoom (label place size (doubled (length w.words))) w.labels f)
+      go : (f : Found) → Numbered 20 30 (entered t.label_room (label place size (doubled (length w.words))) w.labels f)
       go (At i a) = tt
-      go Nothing = or-numbered (ltb (length w.labels) t.labelRoom) (w.labels ++ label place size (doubled (length w.words)) ∷ []) 27 20 30 (omega arith, omega arith)
+      go Nothing = or-numbered (ltb (length w.labels) t.label_room) (w.labels ++ label place size (doubled (length w.words)) ∷ []) 27 20 30 (omega arith, omega arith)
 
 -- ---- reading
 
@@ -135,18 +135,18 @@ said-numbered at line (is (Parse.says i)) p = tt
 said-numbered at line (is (Parse.refers r name)) p = tt
 said-numbered at line (no n) p = p
 
-trimmed-numbered : (at : ℕ) (line : List ℕ) → Numbered 20 30 (readTrimmed at line)
+trimmed-numbered : (at : ℕ) (line : List ℕ) → Numbered 20 30 (read_trimmed at line)
 trimmed-numbered at [] = tt
-trimmed-numbered at (x ∷ xs) = go (eqb x 59) (ltb (length (nameIn (x ∷ xs))) (length (x ∷ xs)))
+trimmed-numbered at (x ∷ xs) = go (eqb x 59) (ltb (length (name_in (x ∷ xs))) (length (x ∷ xs)))
   where
-    go : (t u : Bool) → Numbered 20 30 (cond t (is Reading.skip) (cond u (is (Reading.label at (length (nameIn (x ∷ xs))))) (said at (x ∷ xs) (parse (tokens (x ∷ xs))))))
+    go : (t u : Bool) → Numbered 20 30 (cond t (is Reading.skip) (cond u (is (Reading.label at (length (name_in (x ∷ xs))))) (said at (x ∷ xs) (parse (tokens (x ∷ xs))))))
     go true u = tt
     go false true = tt
     go false false = said-numbered at (x ∷ xs) (parse (tokens (x ∷ xs))) (parse-numbered (tokens (x ∷ xs)))
 
 read-numbered : (line : List ℕ) → Numbered 20 30 (read line)
 unfolding read
-read-numbered line = trimmed-numbered (run isBlank line) (dropEnd isBlank (dropFront isBlank line))
+read-numbered line = trimmed-numbered (run is_blank line) (drop_end is_blank (drop_front is_blank line))
 
 -- ---- a line: 32 where it says a CJP to a register in strict assembly, else 20 to 30
 
@@ -155,7 +155,7 @@ Numbers strict item x = ((x ≡ no 32) × ((strict ≡ true) × Cjp item)) ⊎ N
 
 -- a CJP to a register has no field that could be too wide
 gives-32 : (t : Task) (at : ℕ) (item : Told Item) (w : Work) → (t.strict ≡ true) × Cjp item → turn t at item w ≡ no 32
-unfolding turn says addInstruction wordOf strictWord strictOrder
+unfolding turn says add_instruction word_of strict_word strict_order
 gives-32 t at item w c = rw (c.1.1, c.0)
 
 module _ (t : Task) (at : ℕ) (w : Work) where

@@ -11,11 +11,11 @@ use lib.ListN.{length, get_or}
 use Rattle.base.specs.Choice.{cond}
 use Rattle.base.specs.Told.{Told, is, no}
 use Rattle.base.proofs.ToldLaws.{no_one, its-number}
-use Rattle.text.specs.Lines.{lines, foreignLine}
+use Rattle.text.specs.Lines.{lines, foreign_line}
 use Rattle.asm.specs.Reading.{read}
 use Rattle.asm.specs.Strict.{Cjp}
 use Rattle.asm.specs.Work.{Task, Work, nothing, turn}
-use Rattle.asm.specs.Assemble.{Outcome, refused, nextLine, assembleFrom, assemble}
+use Rattle.asm.specs.Assemble.{Outcome, refused, next_line, assemble_from, assemble}
 use Rattle.asm.proofs.Items.{refused-not}
 use Rattle.asm.proofs.Refusals.{Numbers, turn-numbers, strict-refuses}
 
@@ -37,7 +37,7 @@ module _ (t : Task) (n k : ℕ) where
 
   -- of one line more, it is that one or one of those after it
   next : (l : List ℕ) (ls : List (List ℕ)) (at line : ℕ) (w : Work) (x : Told Work) (rest : Work → Outcome) → turn t at (read l) w ≡ x →
-      ((v : Work) → rest v ≡ refused n k → Stops ls (line + 1)) → nextLine (line + 1) x rest ≡ refused n k → Stops (l ∷ ls) line
+      ((v : Work) → rest v ≡ refused n k → Stops ls (line + 1)) → next_line (line + 1) x rest ≡ refused n k → Stops (l ∷ ls) line
   next l ls at line w (is v) rest p later q =
       let r = later v q in
       record {
@@ -58,21 +58,21 @@ module _ (t : Task) (n k : ℕ) where
         turns = p ∙ ap no (same_number m n (line + 1) k q);
       }
 
-  stops : (ls : List (List ℕ)) (at line : ℕ) (w : Work) → assembleFrom t ls at line w ≡ refused n k → Stops ls line
+  stops : (ls : List (List ℕ)) (at line : ℕ) (w : Work) → assemble_from t ls at line w ≡ refused n k → Stops ls line
   stops [] at line w e = refused-not n k w (sym e)
   stops (l ∷ ls) at line w e =
-      let rest : Work → Outcome = assembleFrom t ls (at + length l + 1) (line + 1) in
+      let rest : Work → Outcome = assemble_from t ls (at + length l + 1) (line + 1) in
       next l ls at line w (turn t at (read l) w) rest refl (stops ls (at + length l + 1) (line + 1)) e
 
   -- 26 over the whole text, or a line of it
   pub refused-by : assemble t ≡ refused n k → (n ≡ 26) ⊎ Stops (lines t.text) 0
   unfolding assemble
-  refused-by e = go (eqb (foreignLine 1 t.text) 0) e
+  refused-by e = go (eqb (foreign_line 1 t.text) 0) e
     where
-      go : (b : Bool) → cond b (assembleFrom t (lines t.text) 0 0 nothing) (refused 26 (foreignLine 1 t.text)) ≡ refused n k →
+      go : (b : Bool) → cond b (assemble_from t (lines t.text) 0 0 nothing) (refused 26 (foreign_line 1 t.text)) ≡ refused n k →
           (n ≡ 26) ⊎ Stops (lines t.text) 0
       go true q = inr (stops (lines t.text) 0 0 nothing q)
-      go false q = inl (sym (same_number 26 n (foreignLine 1 t.text) k q))
+      go false q = inl (sym (same_number 26 n (foreign_line 1 t.text) k q))
 
   pub refused-numbers : assemble t ≡ refused n k → (20 ≤ n) × (n ≤ 32)
   refused-numbers e = go (refused-by e)

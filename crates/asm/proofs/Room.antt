@@ -13,7 +13,7 @@ use Rattle.base.specs.Told.{Told, is, no, ◌>>=◌}
 use Rattle.base.specs.Words.{doubled}
 use Rattle.instruction.specs.declared.Instruction.{Instruction}
 use Rattle.instruction.specs.Encode.{encode}
-use Rattle.text.specs.Lines.{lines, foreignLine}
+use Rattle.text.specs.Lines.{lines, foreign_line}
 use Rattle.parser.specs.declared.Reference.{Reference}
 use Rattle.parser.specs.References.{resolved}
 use Rattle.labels.specs.declared.Label.{Label}
@@ -21,13 +21,13 @@ use Rattle.labels.specs.declared.Open.{Open}
 use Rattle.labels.specs.declared.Found.{Found}
 use Rattle.labels.specs.declared.Found.TheVariants.{Nothing, At}
 use Rattle.labels.specs.Labels.{names, find, label}
-use Rattle.labels.specs.Opens.{openTo}
-use Rattle.asm.specs.Words.{wordOf, addWord, addInstruction}
-use Rattle.asm.specs.Labels.{part, entered, define, addOpen, Patched, patchedOf, keep, patch}
+use Rattle.labels.specs.Opens.{open_to}
+use Rattle.asm.specs.Words.{word_of, add_word, add_instruction}
+use Rattle.asm.specs.Labels.{part, entered, define, add_open, Patched, patched_of, keep, patch}
 use Rattle.asm.specs.Reading.{Item, read}
 use Rattle.asm.specs.Reading as Reading
-use Rattle.asm.specs.Work.{Task, task, Work, work, nothing, says, opens, refersTo, references, labelled, turn}
-use Rattle.asm.specs.Assemble.{Outcome, accepted, refused, nextLine, assembleFrom, assemble}
+use Rattle.asm.specs.Work.{Task, task, Work, work, nothing, says, opens, refers_to, references, labelled, turn}
+use Rattle.asm.specs.Assemble.{Outcome, accepted, refused, next_line, assemble_from, assemble}
 
 -- ---- what lines take
 
@@ -39,31 +39,31 @@ words_of (is (Reading.says i)) = 1
 words_of (is (Reading.refers r start size)) = 1
 words_of (no n) = 0
 
-abbrev pub labelsOf : Told Item → ℕ
-labelsOf (is Reading.skip) = 0
-labelsOf (is (Reading.label start size)) = 1
-labelsOf (is (Reading.says i)) = 0
-labelsOf (is (Reading.refers r start size)) = 0
-labelsOf (no n) = 0
+abbrev pub labels_of : Told Item → ℕ
+labels_of (is Reading.skip) = 0
+labels_of (is (Reading.label start size)) = 1
+labels_of (is (Reading.says i)) = 0
+labels_of (is (Reading.refers r start size)) = 0
+labels_of (no n) = 0
 
-abbrev pub refersOf : Told Item → ℕ
-refersOf (is Reading.skip) = 0
-refersOf (is (Reading.label start size)) = 0
-refersOf (is (Reading.says i)) = 0
-refersOf (is (Reading.refers r start size)) = 1
-refersOf (no n) = 0
+abbrev pub refers_of : Told Item → ℕ
+refers_of (is Reading.skip) = 0
+refers_of (is (Reading.label start size)) = 0
+refers_of (is (Reading.says i)) = 0
+refers_of (is (Reading.refers r start size)) = 1
+refers_of (no n) = 0
 
 abbrev pub words_in : List (List ℕ) → ℕ
 words_in [] = 0
 words_in (l ∷ ls) = words_of (read l) + words_in ls
 
-abbrev pub labelsIn : List (List ℕ) → ℕ
-labelsIn [] = 0
-labelsIn (l ∷ ls) = labelsOf (read l) + labelsIn ls
+abbrev pub labels_in : List (List ℕ) → ℕ
+labels_in [] = 0
+labels_in (l ∷ ls) = labels_of (read l) + labels_in ls
 
-abbrev pub refersIn : List (List ℕ) → ℕ
-refersIn [] = 0
-refersIn (l ∷ ls) = refersOf (read l) + refersIn ls
+abbrev pub refers_in : List (List ℕ) → ℕ
+refers_in [] = 0
+refers_in (l ∷ ls) = refers_of (read l) + refers_in ls
 
 -- it can be read
 abbrev pub Reads : Told Item → Type 0
@@ -76,8 +76,8 @@ AllRead (l ∷ ls) = Reads (read l) × AllRead ls
 
 -- ---- one word or label more, and patching
 
-added : (room x : ℕ) (words : List ℕ) → length words < min room 32767 → addWord room x words ≡ is (words ++ x ∷ [])
-unfolding addWord
+added : (room x : ℕ) (words : List ℕ) → length words < min room 32767 → add_word room x words ≡ is (words ++ x ∷ [])
+unfolding add_word
 added room x words h = rw (lt-ltb (length words) room (omega arith), lt-ltb (length words) 32767 (omega arith))
 
 defined : (text : List ℕ) (room : ℕ) (l : Label) (labels : List Label) → length labels < room →
@@ -94,8 +94,8 @@ abbrev Patches : Told Patched → List Open → List ℕ → Type 0
 Patches x waiting words = (p : Patched) × (x ≡ is p) × (length p.words ≡ length words) × (length p.waiting ≤ length waiting)
 
 patched : (text name : List ℕ) (a : ℕ) (waiting : List Open) (words : List ℕ) → Patches (patch false text name a waiting words) waiting words
-unfolding patch wordOf
-patched text name a [] words = (patchedOf words [], refl, refl, omega arith)
+unfolding patch word_of
+patched text name a [] words = (patched_of words [], refl, refl, omega arith)
 patched text name a (o ∷ waiting) words =
     go (names text o.place o.length name) (patched text name a waiting now) (patched text name a waiting words)
   where
@@ -114,13 +114,13 @@ abbrev pub Ends : ℕ → Outcome → Type 0
 Ends r (accepted w) = Unit {0}
 Ends r (refused n line) = (n ≡ 28) × (512 < r)
 
-module _ (text : List ℕ) (wordRoom labelRoom total : ℕ) where
+module _ (text : List ℕ) (word_room label_room total : ℕ) where
   abbrev t : Task
-  t = task false text wordRoom labelRoom
+  t = task false text word_room label_room
 
   -- so many words and labels more have room, and so many references more are no more than all
   abbrev Has : ℕ → ℕ → ℕ → Work → Type 0
-  Has m k r w = (length w.words + m ≤ min wordRoom 32767) × (length w.labels + k ≤ labelRoom) × (length w.waiting + r ≤ total)
+  Has m k r w = (length w.words + m ≤ min word_room 32767) × (length w.labels + k ≤ label_room) × (length w.waiting + r ≤ total)
 
   module _ (m k r : ℕ) where
     -- the next work has room for these, or it is 28
@@ -129,14 +129,14 @@ module _ (text : List ℕ) (wordRoom labelRoom total : ℕ) where
     Goes (no n) = (n ≡ 28) × (512 < total)
 
     says-goes : (i : Instruction) (w : Work) → Has (1 + m) (0 + k) (0 + r) w → Goes (says t i w)
-    unfolding says addInstruction wordOf
+    unfolding says add_instruction word_of
     says-goes i w h =
-        rw (added wordRoom (encode i) w.words (omega (arith, h.0)))
+        rw (added word_room (encode i) w.words (omega (arith, h.0)))
         (omega (arith, h.0, length-append w.words (encode i ∷ [])), omega (arith, h.1), omega (arith, h.2))
 
     opens-goes : (o : Open) (w : Work) → Has (1 + m) (0 + k) (1 + r) w → Goes (opens t o w)
-    unfolding opens addOpen
-    opens-goes o w h = rw (added wordRoom 0 w.words (omega (arith, h.0))) (go (ltb (length w.waiting) 512) refl)
+    unfolding opens add_open
+    opens-goes o w h = rw (added word_room 0 w.words (omega (arith, h.0))) (go (ltb (length w.waiting) 512) refl)
       where
         go : (b : Bool) → ltb (length w.waiting) 512 ≡ b →
             Goes (◌>>=◌ (cond b (is (w.waiting ++ o ∷ [])) (no 28)) (λ waiting. is (work (w.words ++ 0 ∷ []) w.labels waiting)))
@@ -148,19 +148,19 @@ module _ (text : List ℕ) (wordRoom labelRoom total : ℕ) where
     unfolding references
     references-goes q place size w h = go (find text (part text place size) w.labels)
       where
-        go : (f : Found) → Goes (refersTo t q place size w f)
+        go : (f : Found) → Goes (refers_to t q place size w f)
         go (At i a) = says-goes (resolved q a) w (h.0, h.1, omega (arith, h.2))
-        go Nothing = opens-goes (openTo place size (length w.words) q) w h
+        go Nothing = opens-goes (open_to place size (length w.words) q) w h
 
     label-goes : (place size : ℕ) (w : Work) → Has (0 + m) (1 + k) (0 + r) w → Goes (labelled t place size w)
     unfolding labelled
     label-goes place size w h =
         let a = doubled (length w.words) in
-        let d = defined text labelRoom (label place size a) w.labels (omega (arith, h.1)) in
+        let d = defined text label_room (label place size a) w.labels (omega (arith, h.1)) in
         let p = patched text (part text place size) a w.waiting w.words in
         rw (d.1, p.1) (omega (arith, h.0, p.2), omega (arith, h.1, d.2), omega (arith, h.2, p.3))
 
-    turn-goes : (at : ℕ) (item : Told Item) (w : Work) → Reads item → Has (words_of item + m) (labelsOf item + k) (refersOf item + r) w →
+    turn-goes : (at : ℕ) (item : Told Item) (w : Work) → Reads item → Has (words_of item + m) (labels_of item + k) (refers_of item + r) w →
         Goes (turn t at item w)
     unfolding turn
     turn-goes at (is Reading.skip) w g h = (omega (arith, h.0), omega (arith, h.1), omega (arith, h.2))
@@ -170,20 +170,20 @@ module _ (text : List ℕ) (wordRoom labelRoom total : ℕ) where
     turn-goes at (no n) w g h = absurd g
 
     next-goes : (line : ℕ) (x : Told Work) (next : Work → Outcome) → Goes x → ((w : Work) → Has m k r w → Ends total (next w)) →
-        Ends total (nextLine line x next)
+        Ends total (next_line line x next)
     next-goes line (is w) next h later = later w h
     next-goes line (no n) next h later = h
 
-  lines_end : (ls : List (List ℕ)) (at line : ℕ) (w : Work) → AllRead ls → Has (words_in ls) (labelsIn ls) (refersIn ls) w →
-      Ends total (assembleFrom t ls at line w)
+  lines_end : (ls : List (List ℕ)) (at line : ℕ) (w : Work) → AllRead ls → Has (words_in ls) (labels_in ls) (refers_in ls) w →
+      Ends total (assemble_from t ls at line w)
   lines_end [] at line w g h = tt
   lines_end (l ∷ ls) at line w g h =
-      next-goes (words_in ls) (labelsIn ls) (refersIn ls) (line + 1) (turn t at (read l) w) (assembleFrom t ls (at + length l + 1) (line + 1))
-      (turn-goes (words_in ls) (labelsIn ls) (refersIn ls) at (read l) w g.0 h) (λ v. lines_end ls (at + length l + 1) (line + 1) v g.1)
+      next-goes (words_in ls) (labels_in ls) (refers_in ls) (line + 1) (turn t at (read l) w) (assemble_from t ls (at + length l + 1) (line + 1))
+      (turn-goes (words_in ls) (labels_in ls) (refers_in ls) at (read l) w g.0 h) (λ v. lines_end ls (at + length l + 1) (line + 1) v g.1)
 
-pub room : (text : List ℕ) (wordRoom labelRoom : ℕ) → foreignLine 1 text ≡ 0 → AllRead (lines text) →
-    words_in (lines text) ≤ wordRoom → words_in (lines text) ≤ 32767 → labelsIn (lines text) ≤ labelRoom →
-    Ends (refersIn (lines text)) (assemble (task false text wordRoom labelRoom))
+pub room : (text : List ℕ) (word_room label_room : ℕ) → foreign_line 1 text ≡ 0 → AllRead (lines text) →
+    words_in (lines text) ≤ word_room → words_in (lines text) ≤ 32767 → labels_in (lines text) ≤ label_room →
+    Ends (refers_in (lines text)) (assemble (task false text word_room label_room))
 unfolding assemble
-room text wordRoom labelRoom f g a b c =
-    rw f (lines_end text wordRoom labelRoom (refersIn (lines text)) (lines text) 0 0 nothing g (omega arith, omega arith, omega arith))
+room text word_room label_room f g a b c =
+    rw f (lines_end text word_room label_room (refers_in (lines text)) (lines text) 0 0 nothing g (omega arith, omega arith, omega arith))

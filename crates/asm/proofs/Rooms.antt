@@ -13,7 +13,7 @@ use Rattle.base.specs.Choice.{cond}
 use Rattle.base.specs.Told.{Told, is, no, ◌>>=◌}
 use Rattle.base.specs.Words.{doubled}
 use Rattle.instruction.specs.declared.Instruction.{Instruction}
-use Rattle.text.specs.Lines.{lines, foreignLine}
+use Rattle.text.specs.Lines.{lines, foreign_line}
 use Rattle.parser.specs.declared.Reference.{Reference}
 use Rattle.parser.specs.References.{resolved}
 use Rattle.labels.specs.declared.Label.{Label}
@@ -22,13 +22,13 @@ use Rattle.labels.specs.declared.Found.{Found}
 use Rattle.labels.specs.declared.Found.TheVariants.{Nothing, At}
 use Rattle.labels.specs.Labels.{names, find}
 use Rattle.labels.specs.Labels as Labels
-use Rattle.labels.specs.Opens.{openTo}
-use Rattle.asm.specs.Words.{wordOf, addWord, addInstruction}
-use Rattle.asm.specs.Labels.{part, entered, define, addOpen, Patched, keep, patch}
+use Rattle.labels.specs.Opens.{open_to}
+use Rattle.asm.specs.Words.{word_of, add_word, add_instruction}
+use Rattle.asm.specs.Labels.{part, entered, define, add_open, Patched, keep, patch}
 use Rattle.asm.specs.Reading.{Item, read}
 use Rattle.asm.specs.Reading as Reading
-use Rattle.asm.specs.Work.{Task, task, Work, work, nothing, with_words, says, opens, refersTo, references, labelsAt, labelled, turn}
-use Rattle.asm.specs.Assemble.{Outcome, accepted, refused, nextLine, assembleFrom, assemble, outcome, counts, report}
+use Rattle.asm.specs.Work.{Task, task, Work, work, nothing, with_words, says, opens, refers_to, references, labels_at, labelled, turn}
+use Rattle.asm.specs.Assemble.{Outcome, accepted, refused, next_line, assemble_from, assemble, outcome, counts, report}
 
 -- ---- room over 32,767 words
 
@@ -40,23 +40,23 @@ test-room n room = go (ltb n room) (ltb n 32767) refl refl
     go true false p q = ap (λ (c : Bool). c && false) (sym (le-ltb n (min room 32767) (omega (arith, ltb-false n 32767 q))))
     go false b p q = ap (λ (c : Bool). c && b) (sym (le-ltb n (min room 32767) (omega (arith, ltb-false n room p))))
 
-word_room : (room x : ℕ) (words : List ℕ) → addWord room x words ≡ addWord (min room 32767) x words
-unfolding addWord
-word_room room x words = ap (λ (b : Bool). cond b (is (words ++ x ∷ [])) (no 29)) (test-room (length words) room)
+word-room : (room x : ℕ) (words : List ℕ) → add_word room x words ≡ add_word (min room 32767) x words
+unfolding add_word
+word-room room x words = ap (λ (b : Bool). cond b (is (words ++ x ∷ [])) (no 29)) (test-room (length words) room)
 
 instruction-room : (strict : Bool) (room : ℕ) (i : Instruction) (words : List ℕ) →
-    addInstruction strict room i words ≡ addInstruction strict (min room 32767) i words
-unfolding addInstruction
-instruction-room strict room i words = go (wordOf strict i)
+    add_instruction strict room i words ≡ add_instruction strict (min room 32767) i words
+unfolding add_instruction
+instruction-room strict room i words = go (word_of strict i)
   where
-    go : (x : Told ℕ) → ◌>>=◌ x (λ w. addWord room w words) ≡ ◌>>=◌ x (λ w. addWord (min room 32767) w words)
-    go (is w) = word_room room w words
+    go : (x : Told ℕ) → ◌>>=◌ x (λ w. add_word room w words) ≡ ◌>>=◌ x (λ w. add_word (min room 32767) w words)
+    go (is w) = word-room room w words
     go (no n) = refl
 
-next-line-same : (line : ℕ) (x y : Told Work) (f g : Work → Outcome) → x ≡ y → ((w : Work) → f w ≡ g w) → nextLine line x f ≡ nextLine line y g
-next-line-same line x y f g e k = ap (λ (z : Told Work). nextLine line z f) e ∙ go y
+next-line-same : (line : ℕ) (x y : Told Work) (f g : Work → Outcome) → x ≡ y → ((w : Work) → f w ≡ g w) → next_line line x f ≡ next_line line y g
+next-line-same line x y f g e k = ap (λ (z : Told Work). next_line line z f) e ∙ go y
   where
-    go : (z : Told Work) → nextLine line z f ≡ nextLine line z g
+    go : (z : Told Work) → next_line line z f ≡ next_line line z g
     go (is w) = k w
     go (no n) = refl
 
@@ -74,16 +74,16 @@ module _ (strict : Bool) (text : List ℕ) (room labels : ℕ) where
   opens-room : (o : Open) (w : Work) → opens given o w ≡ opens least o w
   unfolding opens
   opens-room o w =
-      ap (λ (x : Told (List ℕ)). ◌>>=◌ x (λ words. ◌>>=◌ (addOpen o w.waiting) (λ waiting. is (work words w.labels waiting))))
-      (word_room room 0 w.words)
+      ap (λ (x : Told (List ℕ)). ◌>>=◌ x (λ words. ◌>>=◌ (add_open o w.waiting) (λ waiting. is (work words w.labels waiting))))
+      (word-room room 0 w.words)
 
   references-room : (r : Reference) (place size : ℕ) (w : Work) → references given r place size w ≡ references least r place size w
   unfolding references
   references-room r place size w = go (find text (part text place size) w.labels)
     where
-      go : (f : Found) → refersTo given r place size w f ≡ refersTo least r place size w f
+      go : (f : Found) → refers_to given r place size w f ≡ refers_to least r place size w f
       go (At i a) = says-room (resolved r a) w
-      go Nothing = opens-room (openTo place size (length w.words) r) w
+      go Nothing = opens-room (open_to place size (length w.words) r) w
 
   labelled-room : (place size : ℕ) (w : Work) → labelled given place size w ≡ labelled least place size w
   unfolding labelled
@@ -97,16 +97,16 @@ module _ (strict : Bool) (text : List ℕ) (room labels : ℕ) where
   turn-room at (is (Reading.refers r start size)) w = references-room r (at + start) size w
   turn-room at (no n) w = refl
 
-  lines-room : (ls : List (List ℕ)) (at line : ℕ) (w : Work) → assembleFrom given ls at line w ≡ assembleFrom least ls at line w
+  lines-room : (ls : List (List ℕ)) (at line : ℕ) (w : Work) → assemble_from given ls at line w ≡ assemble_from least ls at line w
   lines-room [] at line w = refl
   lines-room (l ∷ ls) at line w =
       next-line-same (line + 1) (turn given at (read l) w) (turn least at (read l) w)
-      (assembleFrom given ls (at + length l + 1) (line + 1)) (assembleFrom least ls (at + length l + 1) (line + 1))
+      (assemble_from given ls (at + length l + 1) (line + 1)) (assemble_from least ls (at + length l + 1) (line + 1))
       (turn-room at (read l) w) (lines-room ls (at + length l + 1) (line + 1))
 
   pub outcome-room : outcome strict text room labels ≡ outcome strict text (min room 32767) labels
   unfolding assemble
-  outcome-room = ap (λ (o : Outcome). cond (eqb (foreignLine 1 text) 0) o (refused 26 (foreignLine 1 text))) (lines-room (lines text) 0 0 nothing)
+  outcome-room = ap (λ (o : Outcome). cond (eqb (foreign_line 1 text) 0) o (refused 26 (foreign_line 1 text))) (lines-room (lines text) 0 0 nothing)
 
 -- ---- what a step that is not refused has come to
 
@@ -131,21 +131,21 @@ each-then P Q (no n) f p k = tt
 
 -- ---- one word, reference or label more, and patching
 
-word-most : (room x : ℕ) (words : List ℕ) → Each (λ (new : List ℕ). length new ≤ min room 32767) (addWord room x words)
-unfolding addWord
+word-most : (room x : ℕ) (words : List ℕ) → Each (λ (new : List ℕ). length new ≤ min room 32767) (add_word room x words)
+unfolding add_word
 word-most room x words =
     each_chosen (λ (new : List ℕ). length new ≤ min room 32767) (ltb (length words) room && ltb (length words) 32767) (words ++ x ∷ []) 29
     (λ e. let t = both (ltb (length words) room) (ltb (length words) 32767) e in
     omega (arith, ltb-true (length words) room t.0, ltb-true (length words) 32767 t.1, length-append words (x ∷ [])))
 
 instruction-most : (strict : Bool) (room : ℕ) (i : Instruction) (words : List ℕ) →
-    Each (λ (new : List ℕ). length new ≤ min room 32767) (addInstruction strict room i words)
-unfolding addInstruction
+    Each (λ (new : List ℕ). length new ≤ min room 32767) (add_instruction strict room i words)
+unfolding add_instruction
 instruction-most strict room i words =
-    each-any (λ (new : List ℕ). length new ≤ min room 32767) (wordOf strict i) (λ w. addWord room w words) (λ w. word-most room w words)
+    each-any (λ (new : List ℕ). length new ≤ min room 32767) (word_of strict i) (λ w. add_word room w words) (λ w. word-most room w words)
 
-open-most : (o : Open) (waiting : List Open) → Each (λ (new : List Open). length new ≤ 512) (addOpen o waiting)
-unfolding addOpen
+open-most : (o : Open) (waiting : List Open) → Each (λ (new : List Open). length new ≤ 512) (add_open o waiting)
+unfolding add_open
 open-most o waiting =
     each_chosen (λ (new : List Open). length new ≤ 512) (ltb (length waiting) 512) (waiting ++ o ∷ []) 28
     (λ e. omega (arith, ltb-true (length waiting) 512 e, length-append waiting (o ∷ [])))
@@ -181,10 +181,10 @@ patch-most strict text name a (o ∷ waiting) words =
     go : (t : Bool) → ((w : ℕ) → Each (Less waiting (set words o.word.0 w)) (patch strict text name a waiting (set words o.word.0 w))) →
         Each (Less waiting words) (patch strict text name a waiting words) →
         Each (Less (o ∷ waiting) words) (cond t
-        (◌>>=◌ (wordOf strict (resolved o.reference a)) (λ w. patch strict text name a waiting (set words o.word.0 w)))
+        (◌>>=◌ (word_of strict (resolved o.reference a)) (λ w. patch strict text name a waiting (set words o.word.0 w)))
         (◌>>=◌ (patch strict text name a waiting words) (λ p. is (keep o p))))
     go true ih1 ih2 =
-        each-any (Less (o ∷ waiting) words) (wordOf strict (resolved o.reference a)) (λ w. patch strict text name a waiting (set words o.word.0 w))
+        each-any (Less (o ∷ waiting) words) (word_of strict (resolved o.reference a)) (λ w. patch strict text name a waiting (set words o.word.0 w))
         (λ w. weaker (set words o.word.0 w) (length-set words o.word.0 w) (patch strict text name a waiting (set words o.word.0 w)) (ih1 w))
     go false ih1 ih2 =
         each-then (Less waiting words) (Less (o ∷ waiting) words) (patch strict text name a waiting words) (λ p. is (keep o p)) ih2
@@ -195,36 +195,36 @@ patch-most strict text name a (o ∷ waiting) words =
 module _ (t : Task) where
   -- within the rooms
   abbrev Within : Work → Type 0
-  Within w = (length w.words ≤ min t.wordRoom 32767) × (length w.labels ≤ t.labelRoom) × (length w.waiting ≤ 512)
+  Within w = (length w.words ≤ min t.word_room 32767) × (length w.labels ≤ t.label_room) × (length w.waiting ≤ 512)
 
   says-within : (i : Instruction) (w : Work) → Within w → Each Within (says t i w)
   unfolding says
   says-within i w h =
-      each-then (λ (new : List ℕ). length new ≤ min t.wordRoom 32767) Within (addInstruction t.strict t.wordRoom i w.words)
-      (λ words. is (with_words w words)) (instruction-most t.strict t.wordRoom i w.words) (λ words k. (k, h.1, h.2))
+      each-then (λ (new : List ℕ). length new ≤ min t.word_room 32767) Within (add_instruction t.strict t.word_room i w.words)
+      (λ words. is (with_words w words)) (instruction-most t.strict t.word_room i w.words) (λ words k. (k, h.1, h.2))
 
   opens-within : (o : Open) (w : Work) → Within w → Each Within (opens t o w)
   unfolding opens
   opens-within o w h =
-      each-then (λ (new : List ℕ). length new ≤ min t.wordRoom 32767) Within (addWord t.wordRoom 0 w.words)
-      (λ words. ◌>>=◌ (addOpen o w.waiting) (λ waiting. is (work words w.labels waiting))) (word-most t.wordRoom 0 w.words)
-      (λ words k. each-then (λ (new : List Open). length new ≤ 512) Within (addOpen o w.waiting) (λ waiting. is (work words w.labels waiting))
+      each-then (λ (new : List ℕ). length new ≤ min t.word_room 32767) Within (add_word t.word_room 0 w.words)
+      (λ words. ◌>>=◌ (add_open o w.waiting) (λ waiting. is (work words w.labels waiting))) (word-most t.word_room 0 w.words)
+      (λ words k. each-then (λ (new : List Open). length new ≤ 512) Within (add_open o w.waiting) (λ waiting. is (work words w.labels waiting))
       (open-most o w.waiting) (λ waiting q. (k, h.1, q)))
 
   references-within : (r : Reference) (place size : ℕ) (w : Work) → Within w → Each Within (references t r place size w)
   unfolding references
   references-within r place size w h = go (find t.text (part t.text place size) w.labels)
     where
-      go : (f : Found) → Each Within (refersTo t r place size w f)
+      go : (f : Found) → Each Within (refers_to t r place size w f)
       go (At i a) = says-within (resolved r a) w h
-      go Nothing = opens-within (openTo place size (length w.words) r) w h
+      go Nothing = opens-within (open_to place size (length w.words) r) w h
 
-  label-within : (l : Label) (w : Work) → Within w → Each Within (labelsAt t l w)
+  label-within : (l : Label) (w : Work) → Within w → Each Within (labels_at t l w)
   label-within l w h =
       let name : List ℕ = part t.text l.place l.length in
       let after : Told Patched = patch t.strict t.text name l.address w.waiting w.words in
-      each-then (λ (new : List Label). length new ≤ t.labelRoom) Within (define t.text t.labelRoom l w.labels)
-      (λ labels. ◌>>=◌ after (λ p. is (work p.words labels p.waiting))) (define-most t.text t.labelRoom l w.labels h.1)
+      each-then (λ (new : List Label). length new ≤ t.label_room) Within (define t.text t.label_room l w.labels)
+      (λ labels. ◌>>=◌ after (λ p. is (work p.words labels p.waiting))) (define-most t.text t.label_room l w.labels h.1)
       (λ labels k. each-then (Less w.waiting w.words) Within after (λ p. is (work p.words labels p.waiting))
       (patch-most t.strict t.text name l.address w.waiting w.words)
       (λ p q. (omega (arith, h.0, q.0), k, omega (arith, h.2, q.1))))
@@ -247,22 +247,22 @@ module _ (t : Task) where
   Ends (refused n line) = Unit {0}
 
   next-line-within : (line : ℕ) (x : Told Work) (next : Work → Outcome) → Each Within x → ((w : Work) → Within w → Ends (next w)) →
-      Ends (nextLine line x next)
+      Ends (next_line line x next)
   next-line-within line (is w) next h k = k w h
   next-line-within line (no n) next h k = tt
 
-  lines-within : (ls : List (List ℕ)) (at line : ℕ) (w : Work) → Within w → Ends (assembleFrom t ls at line w)
+  lines-within : (ls : List (List ℕ)) (at line : ℕ) (w : Work) → Within w → Ends (assemble_from t ls at line w)
   lines-within [] at line w h = h
   lines-within (l ∷ ls) at line w h =
-      next-line-within (line + 1) (turn t at (read l) w) (assembleFrom t ls (at + length l + 1) (line + 1)) (turn-within at (read l) w h)
+      next-line-within (line + 1) (turn t at (read l) w) (assemble_from t ls (at + length l + 1) (line + 1)) (turn-within at (read l) w h)
       (lines-within ls (at + length l + 1) (line + 1))
 
   assemble-within : Ends (assemble t)
   unfolding assemble
-  assemble-within = go (eqb (foreignLine 1 t.text) 0) (lines-within (lines t.text) 0 0 nothing (omega arith, omega arith, omega arith))
+  assemble-within = go (eqb (foreign_line 1 t.text) 0) (lines-within (lines t.text) 0 0 nothing (omega arith, omega arith, omega arith))
     where
-      go : (b : Bool) → Ends (assembleFrom t (lines t.text) 0 0 nothing) →
-          Ends (cond b (assembleFrom t (lines t.text) 0 0 nothing) (refused 26 (foreignLine 1 t.text)))
+      go : (b : Bool) → Ends (assemble_from t (lines t.text) 0 0 nothing) →
+          Ends (cond b (assemble_from t (lines t.text) 0 0 nothing) (refused 26 (foreign_line 1 t.text)))
       go true h = h
       go false h = tt
 

@@ -9,7 +9,7 @@ use Rattle.base.specs.Choice.{cond}
 use Rattle.base.specs.Told.{Told, is, no}
 use Rattle.base.specs.Words.{doubled}
 use Rattle.instruction.specs.Fits.{sayable}
-use Rattle.text.specs.Parts.{isBlank, run, dropFront, dropEnd}
+use Rattle.text.specs.Parts.{is_blank, run, drop_front, drop_end}
 use Rattle.text.specs.Tokens.{tokens}
 use Rattle.text.specs.Lines.{lines}
 use Rattle.parser.specs.declared.Reference.{Reference}
@@ -20,8 +20,8 @@ use Rattle.parser.proofs.SayLaws.{Can, parse-can, resolved-can}
 use Rattle.labels.specs.declared.Label.{Label}
 use Rattle.labels.specs.Labels as Labels
 use Rattle.asm.specs.Labels.{part}
-use Rattle.asm.specs.Reading.{Item, skip, label, says, refers, said, nameIn, readTrimmed, read}
-use Rattle.asm.specs.Meaning.{Meant, instruction, never, placed, itemsFrom, latest, later, either, refer, meant, meaning}
+use Rattle.asm.specs.Reading.{Item, skip, label, says, refers, said, name_in, read_trimmed, read}
+use Rattle.asm.specs.Meaning.{Meant, instruction, never, placed, items_from, latest, later, either, refer, meant, meaning}
 
 -- ---- a line
 
@@ -38,18 +38,18 @@ said-can at line (is (Parse.says i)) h = h
 said-can at line (is (Parse.refers r name)) h = tt
 said-can at line (no n) h = tt
 
-trimmed-can : (at : ℕ) (line : List ℕ) → Says (readTrimmed at line)
+trimmed-can : (at : ℕ) (line : List ℕ) → Says (read_trimmed at line)
 trimmed-can at [] = tt
-trimmed-can at (x ∷ xs) = go (eqb x 59) (ltb (length (nameIn (x ∷ xs))) (length (x ∷ xs)))
+trimmed-can at (x ∷ xs) = go (eqb x 59) (ltb (length (name_in (x ∷ xs))) (length (x ∷ xs)))
   where
-    go : (t u : Bool) → Says (cond t (is skip) (cond u (is (label at (length (nameIn (x ∷ xs))))) (said at (x ∷ xs) (parse (tokens (x ∷ xs))))))
+    go : (t u : Bool) → Says (cond t (is skip) (cond u (is (label at (length (name_in (x ∷ xs))))) (said at (x ∷ xs) (parse (tokens (x ∷ xs))))))
     go true u = tt
     go false true = tt
     go false false = said-can at (x ∷ xs) (parse (tokens (x ∷ xs))) (parse-can (tokens (x ∷ xs)))
 
 read-can : (line : List ℕ) → Says (read line)
 unfolding read
-read-can line = trimmed-can (run isBlank line) (dropEnd isBlank (dropFront isBlank line))
+read-can line = trimmed-can (run is_blank line) (drop_end is_blank (drop_front is_blank line))
 
 -- ---- all that a text means
 
@@ -63,12 +63,12 @@ refer-can : (r : Reference) (x : Told ℕ) (ms : List Meant) → AllCan ms → A
 refer-can r (is a) ms h = (resolved-can r a, h)
 refer-can r (no n) ms h = h
 
-meant-can : (text : List ℕ) (at : ℕ) (ls : List (List ℕ)) (before : List Label) (n : ℕ) → AllCan (meant text before n (itemsFrom at ls))
+meant-can : (text : List ℕ) (at : ℕ) (ls : List (List ℕ)) (before : List Label) (n : ℕ) → AllCan (meant text before n (items_from at ls))
 meant-can text at [] before n = tt
 meant-can text at (l ∷ ls) before n = go (read l) (read-can l) (meant-can text (at + length l + 1) ls)
   where
     rest : List Item
-    rest = itemsFrom (at + length l + 1) ls
+    rest = items_from (at + length l + 1) ls
 
     go : (r : Told Item) → Says r → ((b : List Label) (k : ℕ) → AllCan (meant text b k rest)) → AllCan (meant text before n (placed at r ∷ rest))
     go (is skip) h ih = ih before n

@@ -16,10 +16,10 @@ use Rattle.parser.specs.declared.Reference.{Reference}
 use Rattle.parser.specs.References.{resolved}
 use Rattle.labels.specs.declared.Open.{Open}
 use Rattle.labels.specs.Labels.{names}
-use Rattle.labels.specs.Opens.{openTo}
+use Rattle.labels.specs.Opens.{open_to}
 use Rattle.asm.specs.Labels.{part}
 use Rattle.asm.specs.Reading.{Item, label}
-use Rattle.asm.specs.Meaning.{Meant, instruction, never, refer, later, wordOf, nevers}
+use Rattle.asm.specs.Meaning.{Meant, instruction, never, refer, later, word_of, nevers}
 use Rattle.asm.specs.Strict.{AllSay}
 use Rattle.asm.proofs.Accepted.{Allowed, allowed-said}
 use Rattle.asm.proofs.Tables.{names-swap}
@@ -29,18 +29,18 @@ pub data Slot : Type 0 where
   waits : Reference → ℕ → ℕ → Slot
 
 -- what it means if no label comes any more
-abbrev pub asMeant : Slot → Meant
-asMeant (done i) = instruction i
-asMeant (waits r place size) = never
+abbrev pub as_meant : Slot → Meant
+as_meant (done i) = instruction i
+as_meant (waits r place size) = never
 
-abbrev pub slotWord : Slot → ℕ
-slotWord s = wordOf (asMeant s)
+abbrev pub slot_word : Slot → ℕ
+slot_word s = word_of (as_meant s)
 
 -- those that wait, the first of all being instruction i
-abbrev pub openFrom : ℕ → List Slot → List Open
-openFrom i [] = []
-openFrom i (done j ∷ slots) = openFrom (suc i) slots
-openFrom i (waits r place size ∷ slots) = openTo place size i r ∷ openFrom (suc i) slots
+abbrev pub open_from : ℕ → List Slot → List Open
+open_from i [] = []
+open_from i (done j ∷ slots) = open_from (suc i) slots
+open_from i (waits r place size ∷ slots) = open_to place size i r ∷ open_from (suc i) slots
 
 -- after a definition of the name
 abbrev pub becomes : List ℕ → List ℕ → ℕ → Slot → Slot
@@ -74,23 +74,23 @@ pub map-length : {A B : Type 0} (f : A → B) (xs : List A) → length (map f xs
 map-length f [] = refl
 map-length f (x ∷ xs) = ap suc (map-length f xs)
 
-pub open_done : (i : ℕ) (slots : List Slot) (j : Instruction) → openFrom i (slots ++ done j ∷ []) ≡ openFrom i slots
+pub open_done : (i : ℕ) (slots : List Slot) (j : Instruction) → open_from i (slots ++ done j ∷ []) ≡ open_from i slots
 open_done i [] j = refl
 open_done i (done k ∷ slots) j = open_done (suc i) slots j
-open_done i (waits r place size ∷ slots) j = ap (λ (x : List Open). openTo place size i r ∷ x) (open_done (suc i) slots j)
+open_done i (waits r place size ∷ slots) j = ap (λ (x : List Open). open_to place size i r ∷ x) (open_done (suc i) slots j)
 
 pub open-waits : (i : ℕ) (slots : List Slot) (r : Reference) (p s : ℕ) →
-    openFrom i (slots ++ waits r p s ∷ []) ≡ openFrom i slots ++ openTo p s (i + length slots) r ∷ []
+    open_from i (slots ++ waits r p s ∷ []) ≡ open_from i slots ++ open_to p s (i + length slots) r ∷ []
 open-waits i [] r p s =
     let e : i ≡ i + 0 = omega arith in
-    ap (λ (k : ℕ). openTo p s k r ∷ []) e
+    ap (λ (k : ℕ). open_to p s k r ∷ []) e
 open-waits i (done j ∷ slots) r p s =
     let e : suc i + length slots ≡ i + suc (length slots) = omega arith in
-    open-waits (suc i) slots r p s ∙ ap (λ (k : ℕ). openFrom (suc i) slots ++ openTo p s k r ∷ []) e
+    open-waits (suc i) slots r p s ∙ ap (λ (k : ℕ). open_from (suc i) slots ++ open_to p s k r ∷ []) e
 open-waits i (waits q place size ∷ slots) r p s =
     let e : suc i + length slots ≡ i + suc (length slots) = omega arith in
-    ap (λ (x : List Open). openTo place size i q ∷ x) (open-waits (suc i) slots r p s) ∙
-    ap (λ (k : ℕ). openTo place size i q ∷ openFrom (suc i) slots ++ openTo p s k r ∷ []) e
+    ap (λ (x : List Open). open_to place size i q ∷ x) (open-waits (suc i) slots r p s) ∙
+    ap (λ (k : ℕ). open_to place size i q ∷ open_from (suc i) slots ++ open_to p s k r ∷ []) e
 
 pub good-end : (strict : Bool) (n : ℕ) (slots : List Slot) (s : Slot) → AllGood strict n slots → Good strict n s → AllGood strict n (slots ++ s ∷ [])
 good-end strict n [] s g h = (h, tt)
@@ -98,7 +98,7 @@ good-end strict n (x ∷ slots) s g h = (g.0, good-end strict n slots s g.1 h)
 
 -- ---- what they mean
 
-pub settled-none : (text : List ℕ) (n : ℕ) (slots : List Slot) → map asMeant slots ≡ map (settle text (λ name. later text name n [])) slots
+pub settled-none : (text : List ℕ) (n : ℕ) (slots : List Slot) → map as_meant slots ≡ map (settle text (λ name. later text name n [])) slots
 settled-none text n [] = refl
 settled-none text n (done i ∷ slots) = ap (λ (r : List Meant). instruction i ∷ r) (settled-none text n slots)
 settled-none text n (waits r place size ∷ slots) = ap (λ (r : List Meant). never ∷ r) (settled-none text n slots)
@@ -127,13 +127,13 @@ module _ (strict : Bool) (text : List ℕ) (place size n : ℕ) (items : List It
 
 -- ---- what a list of them shows at the end
 
-pub open-nevers : (i : ℕ) (slots : List Slot) → length (openFrom i slots) ≡ nevers (map asMeant slots)
+pub open-nevers : (i : ℕ) (slots : List Slot) → length (open_from i slots) ≡ nevers (map as_meant slots)
 open-nevers i [] = refl
 open-nevers i (done j ∷ slots) = open-nevers (suc i) slots
 open-nevers i (waits r place size ∷ slots) = ap suc (open-nevers (suc i) slots)
 
 -- strict: what each says comes back from its word, by the round trip
-pub slots-say : (n : ℕ) (slots : List Slot) → AllGood true n slots → AllSay (map asMeant slots) (map slotWord slots)
+pub slots-say : (n : ℕ) (slots : List Slot) → AllGood true n slots → AllSay (map as_meant slots) (map slot_word slots)
 slots-say n [] g = tt
 slots-say n (done i ∷ slots) g =
     let h = allowed-said i g.0 in

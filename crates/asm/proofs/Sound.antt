@@ -13,17 +13,17 @@ use Rattle.instruction.specs.Decode.{decode}
 use Rattle.labels.specs.Labels.{find}
 use Rattle.asm.specs.Work.{Task, task, Work}
 use Rattle.asm.specs.Assemble.{accepted, assemble}
-use Rattle.asm.specs.Meaning.{Meant, instruction, never, latest, meaning, definitions, leadsTo, wordOf, nevers}
+use Rattle.asm.specs.Meaning.{Meant, instruction, never, latest, meaning, definitions, leads_to, word_of, nevers}
 use Rattle.asm.specs.Strict.{AllSay, StrictMeans}
 use Rattle.asm.proofs.Tables.{found-latest}
-use Rattle.asm.proofs.Slots.{asMeant, open-nevers, slots-say}
+use Rattle.asm.proofs.Slots.{as_meant, open-nevers, slots-say}
 use Rattle.asm.proofs.Meanings.{ended}
 
 -- the words are those of what the text means: each label at the address that its line stands for, 0 where it never comes
-pub words-meant : (t : Task) (w : Work) → assemble t ≡ accepted w → w.words ≡ map wordOf (meaning t.text)
+pub words-meant : (t : Task) (w : Work) → assemble t ≡ accepted w → w.words ≡ map word_of (meaning t.text)
 words-meant t w e =
     let r = ended t w e in
-    r.holds.words ∙ sym (map-map wordOf asMeant r.slots) ∙ ap (map wordOf) r.means
+    r.holds.words ∙ sym (map-map word_of as_meant r.slots) ∙ ap (map word_of) r.means
 
 -- as many references are open as lines refer to a label that is never defined
 pub open-meant : (t : Task) (w : Work) → assemble t ≡ accepted w → length w.waiting ≡ nevers (meaning t.text)
@@ -32,14 +32,14 @@ open-meant t w e =
     ap length r.holds.waiting ∙ open-nevers 0 r.slots ∙ ap nevers r.means
 
 pub strict-sound : StrictMeans
-strict-sound text wordRoom labelRoom w e =
-    let t = task true text wordRoom labelRoom in
+strict-sound text word_room label_room w e =
+    let t = task true text word_room label_room in
     let r = ended t w e in
     let said = slots-say (length text) r.slots r.holds.good in
     record {
       says =
           subst (λ (ms : List Meant). AllSay ms w.words) r.means
-          (subst (AllSay (map asMeant r.slots)) (sym r.holds.words) said);
+          (subst (AllSay (map as_meant r.slots)) (sym r.holds.words) said);
       counts = open-meant t w e;
     }
 
@@ -64,5 +64,5 @@ none_open (never ∷ ms) (w ∷ words) a h = absurd (omega (arith, h))
 
 -- the label table leads each name to the latest of its definitions in the text, and a name without one to nothing
 pub labels-latest : (t : Task) (w : Work) → assemble t ≡ accepted w → (name : List ℕ) →
-    leadsTo w.labels (find t.text name w.labels) ≡ latest t.text name (definitions t.text)
+    leads_to w.labels (find t.text name w.labels) ≡ latest t.text name (definitions t.text)
 labels-latest t w e name = found-latest t.text name w.labels ∙ (ended t w e).holds.labels name

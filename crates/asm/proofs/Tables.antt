@@ -17,12 +17,12 @@ use Rattle.base.proofs.ToldLaws.{is-not-no, is_one}
 use Rattle.labels.specs.declared.Label.{Label}
 use Rattle.labels.specs.declared.Found.{Found}
 use Rattle.labels.specs.declared.Found.TheVariants.{Nothing, At}
-use Rattle.labels.specs.Labels.{names, isNamed, find}
+use Rattle.labels.specs.Labels.{names, is_named, find}
 use Rattle.labels.proofs.Laws.{find-lt, find-named, find_first}
 use Rattle.labels.proofs.FindLaws.{behind, find_none, find-here, find-behind}
 use Rattle.labels.proofs.NameLaws.{names-within, names-part}
 use Rattle.asm.specs.Labels.{part, entered, define}
-use Rattle.asm.specs.Meaning.{latest, leadsTo}
+use Rattle.asm.specs.Meaning.{latest, leads_to}
 use Rattle.asm.proofs.Accepted.{chosen}
 
 same-swap : (a b : List ℕ) → same a b ≡ same b a
@@ -47,53 +47,53 @@ module _ (text : List ℕ) where
 
   -- ---- a search leads to the first entry with the name
 
-  pub found-latest : (name : List ℕ) (ls : List Label) → leadsTo ls (find text name ls) ≡ latest text name ls
-  found-latest name [] = ap (leadsTo []) (find_none text name)
-  found-latest name (l ∷ ls) = go (isNamed text name l) refl (found-latest name ls)
+  pub found-latest : (name : List ℕ) (ls : List Label) → leads_to ls (find text name ls) ≡ latest text name ls
+  found-latest name [] = ap (leads_to []) (find_none text name)
+  found-latest name (l ∷ ls) = go (is_named text name l) refl (found-latest name ls)
     where
-      later : (f : Found) → leadsTo (l ∷ ls) (behind f) ≡ leadsTo ls f
+      later : (f : Found) → leads_to (l ∷ ls) (behind f) ≡ leads_to ls f
       later Nothing = refl
       later (At i a) = refl
 
-      go : (t : Bool) → isNamed text name l ≡ t → leadsTo ls (find text name ls) ≡ latest text name ls →
-          leadsTo (l ∷ ls) (find text name (l ∷ ls)) ≡ cond (isNamed text name l) (is l.address) (latest text name ls)
-      go true q ih = ap (leadsTo (l ∷ ls)) (find-here text name l ls q) ∙ rw q
-      go false q ih = ap (leadsTo (l ∷ ls)) (find-behind text name l ls q) ∙ later (find text name ls) ∙ ih ∙ rw q
+      go : (t : Bool) → is_named text name l ≡ t → leads_to ls (find text name ls) ≡ latest text name ls →
+          leads_to (l ∷ ls) (find text name (l ∷ ls)) ≡ cond (is_named text name l) (is l.address) (latest text name ls)
+      go true q ih = ap (leads_to (l ∷ ls)) (find-here text name l ls q) ∙ rw q
+      go false q ih = ap (leads_to (l ∷ ls)) (find-behind text name l ls q) ∙ later (find text name ls) ∙ ih ∙ rw q
 
   -- ---- a definition is the latest of its name
 
   -- a new entry, of a name that had none
-  added : (name : List ℕ) (l : Label) (ls : List Label) → (isNamed text name l ≡ true → latest text name ls ≡ no 25) →
+  added : (name : List ℕ) (l : Label) (ls : List Label) → (is_named text name l ≡ true → latest text name ls ≡ no 25) →
       latest text name (ls ++ l ∷ []) ≡ latest text name (l ∷ ls)
   added name l [] k = refl
-  added name l (m ∷ ls) k = go (isNamed text name m) (isNamed text name l) refl k (added name l ls)
+  added name l (m ∷ ls) k = go (is_named text name m) (is_named text name l) refl k (added name l ls)
     where
-      go : (u t : Bool) → isNamed text name l ≡ t → (isNamed text name l ≡ true → cond u (is m.address) (latest text name ls) ≡ no 25) →
-          ((isNamed text name l ≡ true → latest text name ls ≡ no 25) → latest text name (ls ++ l ∷ []) ≡ latest text name (l ∷ ls)) →
+      go : (u t : Bool) → is_named text name l ≡ t → (is_named text name l ≡ true → cond u (is m.address) (latest text name ls) ≡ no 25) →
+          ((is_named text name l ≡ true → latest text name ls ≡ no 25) → latest text name (ls ++ l ∷ []) ≡ latest text name (l ∷ ls)) →
           cond u (is m.address) (latest text name (ls ++ l ∷ [])) ≡ cond t (is l.address) (cond u (is m.address) (latest text name ls))
       go true true q k ih = is-not-no m.address 25 (k q)
       go true false q k ih = refl
       go false t q k ih = ih k ∙ ap (λ (b : Bool). cond b (is l.address) (latest text name ls)) q
 
   -- an entry overwritten, the first that had the name
-  module _ (name own : List ℕ) (l d : Label) (only : isNamed text name l ≡ true → name ≡ own) (has : name ≡ own → isNamed text name l ≡ true) where
-    replaced : (ls : List Label) (i : ℕ) → i < length ls → isNamed text own (get_or ls i d) ≡ true → ((j : ℕ) → j < i → isNamed text own (get_or ls j d) ≡ false) →
+  module _ (name own : List ℕ) (l d : Label) (only : is_named text name l ≡ true → name ≡ own) (has : name ≡ own → is_named text name l ≡ true) where
+    replaced : (ls : List Label) (i : ℕ) → i < length ls → is_named text own (get_or ls i d) ≡ true → ((j : ℕ) → j < i → is_named text own (get_or ls j d) ≡ false) →
         latest text name (set ls i l) ≡ latest text name (l ∷ ls)
     replaced [] i h q earlier = absurd (not-suc-le-zero h)
-    replaced (m ∷ ls) zero h q earlier = go (isNamed text name l) (isNamed text name m) refl refl
+    replaced (m ∷ ls) zero h q earlier = go (is_named text name l) (is_named text name m) refl refl
       where
-        go : (t u : Bool) → isNamed text name l ≡ t → isNamed text name m ≡ u →
+        go : (t u : Bool) → is_named text name l ≡ t → is_named text name m ≡ u →
             cond t (is l.address) (latest text name ls) ≡ cond t (is l.address) (cond u (is m.address) (latest text name ls))
         go true u e f = refl
         go false true e f =
             let same_name : name ≡ own = sym (names-part text name m.place m.length f) ∙ names-part text own m.place m.length q in
             clash (sym e ∙ has same_name)
         go false false e f = refl
-    replaced (m ∷ ls) (suc i) h q earlier = go (isNamed text name l) (isNamed text name m) refl refl (replaced ls i (le_of_suc-le-suc h) q (λ j k. earlier (suc j) (omega arith)))
+    replaced (m ∷ ls) (suc i) h q earlier = go (is_named text name l) (is_named text name m) refl refl (replaced ls i (le_of_suc-le-suc h) q (λ j k. earlier (suc j) (omega arith)))
       where
-        go : (t u : Bool) → isNamed text name l ≡ t → isNamed text name m ≡ u → latest text name (set ls i l) ≡ latest text name (l ∷ ls) →
+        go : (t u : Bool) → is_named text name l ≡ t → is_named text name m ≡ u → latest text name (set ls i l) ≡ latest text name (l ∷ ls) →
             cond u (is m.address) (latest text name (set ls i l)) ≡ cond t (is l.address) (cond u (is m.address) (latest text name ls))
-        go true true e f ih = clash (sym (ap (λ (x : List ℕ). isNamed text x m) (only e) ∙ earlier 0 (omega arith)) ∙ f)
+        go true true e f ih = clash (sym (ap (λ (x : List ℕ). is_named text x m) (only e) ∙ earlier 0 (omega arith)) ∙ f)
         go true false e f ih = ih ∙ ap (λ (b : Bool). cond b (is l.address) (latest text name ls)) e
         go false u e f ih =
             ap (λ (x : Told ℕ). cond u (is m.address) x) (ih ∙ ap (λ (b : Bool). cond b (is l.address) (latest text name ls)) e)
@@ -106,14 +106,14 @@ module _ (text : List ℕ) where
       own : List ℕ
       own = part text l.place l.length
 
-      only : isNamed text name l ≡ true → name ≡ own
+      only : is_named text name l ≡ true → name ≡ own
       only q = sym (names-part text name l.place l.length q)
 
-      has : name ≡ own → isNamed text name l ≡ true
-      has q = ap (λ (x : List ℕ). isNamed text x l) q ∙ named_self l.place l.length h
+      has : name ≡ own → is_named text name l ≡ true
+      has q = ap (λ (x : List ℕ). is_named text x l) q ∙ named_self l.place l.length h
 
       none : find text own ls ≡ Nothing → latest text own ls ≡ no 25
-      none q = sym (found-latest own ls) ∙ ap (leadsTo ls) q
+      none q = sym (found-latest own ls) ∙ ap (leads_to ls) q
 
       go : (f : Found) → find text own ls ≡ f → entered room l ls f ≡ is new → latest text name new ≡ latest text name (l ∷ ls)
       go (At i a) q r =

@@ -26,9 +26,9 @@ placed at (is (refers r start size)) = refers r (at + start) size
 placed at (no n) = skip
 
 -- the items of lines, the first of which starts at `at`
-abbrev pub itemsFrom : ℕ → List (List ℕ) → List Item
-itemsFrom at [] = []
-itemsFrom at (l ∷ ls) = placed at (read l) ∷ itemsFrom (at + length l + 1) ls
+abbrev pub items_from : ℕ → List (List ℕ) → List Item
+items_from at [] = []
+items_from at (l ∷ ls) = placed at (read l) ∷ items_from (at + length l + 1) ls
 
 -- the address of the latest of some definitions of a name, which are given newest first
 abbrev pub latest : List ℕ → List ℕ → List Label → Told ℕ
@@ -67,12 +67,12 @@ meant text before n (refers r place size ∷ items) =
     ∷ meant text before (n + 1) items
 
 unfoldable pub meaning : List ℕ → List Meant
-meaning text = meant text [] 0 (itemsFrom 0 (lines text))
+meaning text = meant text [] 0 (items_from 0 (lines text))
 
 -- the word of it: 0 where the label never comes
-abbrev pub wordOf : Meant → ℕ
-wordOf (instruction i) = encode i
-wordOf never = 0
+abbrev pub word_of : Meant → ℕ
+word_of (instruction i) = encode i
+word_of never = 0
 
 -- how many lines refer to a label that is never defined
 abbrev pub nevers : List Meant → ℕ
@@ -90,9 +90,9 @@ defined before n (refers r place size ∷ items) = defined before (n + 1) items
 
 -- all definitions of a text, newest first
 unfoldable pub definitions : List ℕ → List Label
-definitions text = defined [] 0 (itemsFrom 0 (lines text))
+definitions text = defined [] 0 (items_from 0 (lines text))
 
 -- the address that a search of a label table leads to
-abbrev pub leadsTo : List Label → Found → Told ℕ
-leadsTo labels (At i a) = is a
-leadsTo labels Nothing = no 25
+abbrev pub leads_to : List Label → Found → Told ℕ
+leads_to labels (At i a) = is a
+leads_to labels Nothing = no 25

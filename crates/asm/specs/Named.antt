@@ -25,40 +25,40 @@ pub data Definition : Type 0 where
   def : List ℕ → ℕ → Definition
 
 -- an item whose places are in this text
-abbrev pub nameItem : List ℕ → Item → Named
-nameItem text Reading.skip = skip
-nameItem text (Reading.label place size) = label (part text place size)
-nameItem text (Reading.says i) = says i
-nameItem text (Reading.refers r place size) = refers r (part text place size)
+abbrev pub name_item : List ℕ → Item → Named
+name_item text Reading.skip = skip
+name_item text (Reading.label place size) = label (part text place size)
+name_item text (Reading.says i) = says i
+name_item text (Reading.refers r place size) = refers r (part text place size)
 
-abbrev pub nameLabel : List ℕ → Label → Definition
-nameLabel text l = def (part text l.place l.length) l.address
+abbrev pub name_label : List ℕ → Label → Definition
+name_label text l = def (part text l.place l.length) l.address
 
 -- a line by itself; one that can't be read is no item
-abbrev pub nameTold : List ℕ → Told Item → Named
-nameTold line (is i) = nameItem line i
-nameTold line (no n) = skip
+abbrev pub name_told : List ℕ → Told Item → Named
+name_told line (is i) = name_item line i
+name_told line (no n) = skip
 
-abbrev pub nameLine : List ℕ → Named
-nameLine line = nameTold line (read line)
+abbrev pub name_line : List ℕ → Named
+name_line line = name_told line (read line)
 
 -- the address of the latest of some definitions of a name, which are given newest first
-abbrev pub latestOf : List ℕ → List Definition → Told ℕ
-latestOf name [] = no 25
-latestOf name (def m a ∷ ds) = cond (same m name) (is a) (latestOf name ds)
+abbrev pub latest_of : List ℕ → List Definition → Told ℕ
+latest_of name [] = no 25
+latest_of name (def m a ∷ ds) = cond (same m name) (is a) (latest_of name ds)
 
 -- the address that the first definition of a name among these has, n instructions having come before them
-abbrev pub laterOf : List ℕ → ℕ → List Named → Told ℕ
-laterOf name n [] = no 25
-laterOf name n (skip ∷ items) = laterOf name n items
-laterOf name n (label m ∷ items) = cond (same m name) (is (doubled n)) (laterOf name n items)
-laterOf name n (says i ∷ items) = laterOf name (n + 1) items
-laterOf name n (refers r m ∷ items) = laterOf name (n + 1) items
+abbrev pub later_of : List ℕ → ℕ → List Named → Told ℕ
+later_of name n [] = no 25
+later_of name n (skip ∷ items) = later_of name n items
+later_of name n (label m ∷ items) = cond (same m name) (is (doubled n)) (later_of name n items)
+later_of name n (says i ∷ items) = later_of name (n + 1) items
+later_of name n (refers r m ∷ items) = later_of name (n + 1) items
 
 -- a name stands for its latest definition before the line, else for the first one after it
-abbrev pub meantOf : List Definition → ℕ → List Named → List Meant
-meantOf before n [] = []
-meantOf before n (skip ∷ items) = meantOf before n items
-meantOf before n (label m ∷ items) = meantOf (def m (doubled n) ∷ before) n items
-meantOf before n (says i ∷ items) = instruction i ∷ meantOf before (n + 1) items
-meantOf before n (refers r m ∷ items) = refer r (either (latestOf m before) (laterOf m (n + 1) items)) ∷ meantOf before (n + 1) items
+abbrev pub meant_of : List Definition → ℕ → List Named → List Meant
+meant_of before n [] = []
+meant_of before n (skip ∷ items) = meant_of before n items
+meant_of before n (label m ∷ items) = meant_of (def m (doubled n) ∷ before) n items
+meant_of before n (says i ∷ items) = instruction i ∷ meant_of before (n + 1) items
+meant_of before n (refers r m ∷ items) = refer r (either (latest_of m before) (later_of m (n + 1) items)) ∷ meant_of before (n + 1) items

@@ -4,8 +4,8 @@ use Rattle.base.specs.Choice.{cond}
 use Rattle.base.specs.Numbers.{number_of}
 use Rattle.base.specs.Told.{Told, is, no}
 use Rattle.instruction.specs.declared.Instruction.{Instruction}
-use Rattle.text.specs.Parts.{isBlank, equals, run, dropFront, dropEnd}
-use Rattle.text.specs.Tokens.{tokens, secondStart}
+use Rattle.text.specs.Parts.{is_blank, equals, run, drop_front, drop_end}
+use Rattle.text.specs.Tokens.{tokens, second_start}
 use Rattle.parser.specs.declared.Reference.{Reference}
 use Rattle.parser.specs.Answers.{Meaning}
 use Rattle.parser.specs.Parse.{parse}
@@ -20,12 +20,12 @@ pub data Item : Type 0 where
   refers : Reference → ℕ → ℕ → Item
 
 -- what the function answers: the line itself, or 01's number
-abbrev pub toldItem : Line → Told Item
-toldItem Line.Skip = is skip
-toldItem (Line.Label start size) = is (label start size)
-toldItem (Line.Says i) = is (says i)
-toldItem (Line.Refers r start size) = is (refers r start size)
-toldItem (Line.Refused r) = no (number_of r)
+abbrev pub told_item : Line → Told Item
+told_item Line.Skip = is skip
+told_item (Line.Label start size) = is (label start size)
+told_item (Line.Says i) = is (says i)
+told_item (Line.Refers r start size) = is (refers r start size)
+told_item (Line.Refused r) = no (number_of r)
 
 -- where the name ends that a line has, 0 where it has none
 abbrev pub end_of : Line → ℕ
@@ -38,20 +38,20 @@ end_of (Line.Refused r) = 0
 -- a reference keeps where the name stands that it waits for: it is the second token
 abbrev pub said : ℕ → List ℕ → Told Meaning → Told Item
 said at line (is (Parse.says i)) = is (says i)
-said at line (is (Parse.refers r name)) = is (refers r (at + secondStart line) (length name))
+said at line (is (Parse.refers r name)) = is (refers r (at + second_start line) (length name))
 said at line (no n) = no n
 
 -- without its final colons
-abbrev pub nameIn : List ℕ → List ℕ
-nameIn line = dropEnd (equals 58) line
+abbrev pub name_in : List ℕ → List ℕ
+name_in line = drop_end (equals 58) line
 
 -- a trimmed line, which starts at `at`: empty or a comment; a label if it ends in a colon; else what its tokens say
-abbrev pub readTrimmed : ℕ → List ℕ → Told Item
-readTrimmed at [] = is skip
-readTrimmed at (x ∷ xs) =
+abbrev pub read_trimmed : ℕ → List ℕ → Told Item
+read_trimmed at [] = is skip
+read_trimmed at (x ∷ xs) =
     cond (eqb x 59) (is skip)
-    (cond (ltb (length (nameIn (x ∷ xs))) (length (x ∷ xs))) (is (label at (length (nameIn (x ∷ xs)))))
+    (cond (ltb (length (name_in (x ∷ xs))) (length (x ∷ xs))) (is (label at (length (name_in (x ∷ xs)))))
     (said at (x ∷ xs) (parse (tokens (x ∷ xs)))))
 
 unfoldable pub read : List ℕ → Told Item
-read line = readTrimmed (run isBlank line) (dropEnd isBlank (dropFront isBlank line))
+read line = read_trimmed (run is_blank line) (drop_end is_blank (drop_front is_blank line))

@@ -32,9 +32,9 @@ Sayable (instruction i ∷ ms) = ((fits i ≡ true) × (decodable i ≡ true)) �
 Sayable (never ∷ ms) = Sayable ms
 
 abbrev pub StrictAccepts : Type 0
-StrictAccepts = (text : List ℕ) (wordRoom labelRoom : ℕ) (w : Work) →
-    (outcome true text wordRoom labelRoom ≡ accepted w → (outcome false text wordRoom labelRoom ≡ accepted w) × Sayable (meaning text)) ×
-    (outcome false text wordRoom labelRoom ≡ accepted w → Sayable (meaning text) → outcome true text wordRoom labelRoom ≡ accepted w)
+StrictAccepts = (text : List ℕ) (word_room label_room : ℕ) (w : Work) →
+    (outcome true text word_room label_room ≡ accepted w → (outcome false text word_room label_room ≡ accepted w) × Sayable (meaning text)) ×
+    (outcome false text word_room label_room ≡ accepted w → Sayable (meaning text) → outcome true text word_room label_room ≡ accepted w)
 
 -- ---- what it does not accept, it refuses as plain assembly does, or with 30, or with 32
 
@@ -42,7 +42,7 @@ abbrev pub AsPlain : Outcome → Outcome → Type 0
 AsPlain strict plain = (strict ≡ plain) ⊎ ((line : ℕ) × ((strict ≡ refused 30 line) ⊎ (strict ≡ refused 32 line)))
 
 abbrev pub StrictPlain : Type 0
-StrictPlain = (text : List ℕ) (wordRoom labelRoom : ℕ) → AsPlain (outcome true text wordRoom labelRoom) (outcome false text wordRoom labelRoom)
+StrictPlain = (text : List ℕ) (word_room label_room : ℕ) → AsPlain (outcome true text word_room label_room) (outcome false text word_room label_room)
 
 -- ---- the words of a strictly accepted text decode, one by one, to the very instructions that its lines say, labels resolved to the
 -- very addresses (Meaning.antt). One case is left: a line that refers to a label that is never defined. Its word is 0, and the answer
@@ -66,5 +66,5 @@ pub record Means (text words : List ℕ) (waiting : ℕ) : Type 0 where
   pub counts : waiting ≡ nevers (meaning text)
 
 abbrev pub StrictMeans : Type 0
-StrictMeans = (text : List ℕ) (wordRoom labelRoom : ℕ) (w : Work) → outcome true text wordRoom labelRoom ≡ accepted w →
+StrictMeans = (text : List ℕ) (word_room label_room : ℕ) (w : Work) → outcome true text word_room label_room ≡ accepted w →
     Means text w.words (length w.waiting)

@@ -12,10 +12,10 @@ use Rattle.labels.specs.declared.Found.{Found}
 use Rattle.labels.specs.declared.Found.TheVariants.{Nothing, At}
 use Rattle.labels.specs.Labels.{label, no_label, names}
 use Rattle.labels.specs.Opens.{no_open}
-use Rattle.asm.specs.Words.{wordOf}
-use Rattle.asm.specs.Labels.{part, Patched, patchedOf}
+use Rattle.asm.specs.Words.{word_of}
+use Rattle.asm.specs.Labels.{part, Patched, patched_of}
 use Rattle.asm.specs.Work.{Work, work}
-use Rattle.asm.specs.Assemble.{Outcome, accepted, refused, report, reported, words_of, labelsLeft}
+use Rattle.asm.specs.Assemble.{Outcome, accepted, refused, report, reported, words_of, labels_left}
 use Rattle.asm.specs.declared.Assembled.{Assembled}
 use Rattle.asm.specs.declared.Assembled.TheVariants as Assembled
 use Rattle.asm.specs.declared.words.Added.{Added}
@@ -45,9 +45,9 @@ abbrev pub slot_of : Found → ℕ → ℕ
 slot_of (At i a) count = i
 slot_of Nothing count = count
 
-abbrev pub usedOf : Found → ℕ → ℕ → Told ℕ
-usedOf (At i a) count room = is count
-usedOf Nothing count room = cond (ltb count room) (is (count + 1)) (no 27)
+abbrev pub used_of : Found → ℕ → ℕ → Told ℕ
+used_of (At i a) count room = is count
+used_of Nothing count room = cond (ltb count room) (is (count + 1)) (no 27)
 
 -- of a line: the name that it looks up, where its label goes, and the label; past the table's end for a line that has none
 abbrev pub name_at : List ℕ → ℕ → Line → List ℕ
@@ -57,19 +57,19 @@ name_at text at (Line.Says i) = part text 0 0
 name_at text at (Line.Refers r start size) = part text (at + start) size
 name_at text at (Line.Refused r) = part text 0 0
 
-abbrev pub slotFor : Line → Found → ℕ → ℕ → ℕ
-slotFor Line.Skip f count most = most
-slotFor (Line.Label start size) f count most = slot_of f count
-slotFor (Line.Says i) f count most = most
-slotFor (Line.Refers r start size) f count most = most
-slotFor (Line.Refused r) f count most = most
+abbrev pub slot_for : Line → Found → ℕ → ℕ → ℕ
+slot_for Line.Skip f count most = most
+slot_for (Line.Label start size) f count most = slot_of f count
+slot_for (Line.Says i) f count most = most
+slot_for (Line.Refers r start size) f count most = most
+slot_for (Line.Refused r) f count most = most
 
-abbrev pub labelFor : Line → ℕ → ℕ → Label
-labelFor Line.Skip at words = no_label
-labelFor (Line.Label start size) at words = label (at + start) size (doubled words)
-labelFor (Line.Says i) at words = no_label
-labelFor (Line.Refers r start size) at words = no_label
-labelFor (Line.Refused r) at words = no_label
+abbrev pub label_for : Line → ℕ → ℕ → Label
+label_for Line.Skip at words = no_label
+label_for (Line.Label start size) at words = label (at + start) size (doubled words)
+label_for (Line.Says i) at words = no_label
+label_for (Line.Refers r start size) at words = no_label
+label_for (Line.Refused r) at words = no_label
 
 -- the labels after an answer
 abbrev pub used : Defined → Told ℕ
@@ -98,7 +98,7 @@ left_of (Left.Count n) = n
 left_of (Left.Refused r) = 0
 
 abbrev pub patched : Left → List ℕ → List Open → Told Patched
-patched (Left.Count n) words waiting = is (patchedOf words (take n waiting))
+patched (Left.Count n) words waiting = is (patched_of words (take n waiting))
 patched (Left.Refused r) words waiting = no (number_of r)
 
 -- one open reference patched in place: how many of those up to it are kept, and what the arrays hold
@@ -107,11 +107,11 @@ pub record Kept : Type 0 where
   pub words : List ℕ
   pub waiting : List Open
 
-abbrev pub keptOf : ℕ → List ℕ → List Open → Kept
-keptOf count words waiting = record { count = count; words = words; waiting = waiting }
+abbrev pub kept_of : ℕ → List ℕ → List Open → Kept
+kept_of count words waiting = record { count = count; words = words; waiting = waiting }
 
 abbrev pub stepped : Left → List ℕ → List Open → Told Kept
-stepped (Left.Count n) words waiting = is (keptOf n words waiting)
+stepped (Left.Count n) words waiting = is (kept_of n words waiting)
 stepped (Left.Refused r) words waiting = no (number_of r)
 
 -- a word that there is is put, and the count stays
@@ -122,23 +122,23 @@ abbrev pub put : Told ℕ → ℕ → List ℕ → List ℕ
 put (is w) i words = set words i w
 put (no n) i words = words
 
-abbrev pub patchThis : Bool → List ℕ → List ℕ → ℕ → Open → ℕ → List ℕ → List Open → Told Kept
-patchThis strict text name address o kept words waiting =
+abbrev pub patch_this : Bool → List ℕ → List ℕ → ℕ → Open → ℕ → List ℕ → List Open → Told Kept
+patch_this strict text name address o kept words waiting =
     cond (names text o.place o.length name)
-    (wordOf strict (resolved o.reference address) >>= λ w. is (keptOf kept (set words o.word.0 w) waiting))
-    (is (keptOf (kept + 1) words (set waiting kept o)))
+    (word_of strict (resolved o.reference address) >>= λ w. is (kept_of kept (set words o.word.0 w) waiting))
+    (is (kept_of (kept + 1) words (set waiting kept o)))
 
-unfoldable pub patchOne : Bool → List ℕ → List ℕ → ℕ → ℕ → ℕ → List ℕ → List Open → Told Kept
-patchOne strict text name address i kept words waiting = patchThis strict text name address (get_or waiting i no_open) kept words waiting
+unfoldable pub patch_one : Bool → List ℕ → List ℕ → ℕ → ℕ → ℕ → List ℕ → List Open → Told Kept
+patch_one strict text name address i kept words waiting = patch_this strict text name address (get_or waiting i no_open) kept words waiting
 
 -- the work so far
-abbrev pub workOf : Counts → List ℕ → List Label → List Open → Work
-workOf n words labels waiting =
+abbrev pub work_of : Counts → List ℕ → List Label → List Open → Work
+work_of n words labels waiting =
     work (take n.words.0 words) (take n.labels labels) (take n.waiting waiting)
 
 -- and after an answer
 abbrev pub turned : Turn → List ℕ → List Label → List Open → Told Work
-turned (Turn.Go n) words labels waiting = is (workOf n words labels waiting)
+turned (Turn.Go n) words labels waiting = is (work_of n words labels waiting)
 turned (Turn.Refused r) words labels waiting = no (number_of r)
 
 -- how many, none where it was refused
@@ -146,41 +146,41 @@ abbrev pub words_in : Turn → ℕ
 words_in (Turn.Go n) = n.words.0
 words_in (Turn.Refused r) = 0
 
-abbrev pub labelsIn : Turn → ℕ
-labelsIn (Turn.Go n) = n.labels
-labelsIn (Turn.Refused r) = 0
+abbrev pub labels_in : Turn → ℕ
+labels_in (Turn.Go n) = n.labels
+labels_in (Turn.Refused r) = 0
 
-abbrev pub waitingIn : Turn → ℕ
-waitingIn (Turn.Go n) = n.waiting
-waitingIn (Turn.Refused r) = 0
+abbrev pub waiting_in : Turn → ℕ
+waiting_in (Turn.Go n) = n.waiting
+waiting_in (Turn.Refused r) = 0
 
 -- counts that the arrays hold
 abbrev pub Within : ℕ → ℕ → ℕ → ℕ → ℕ → Type 0
-Within words labels waiting room labelRoom = (words ≤ room) × (words ≤ 32767) × (labels ≤ labelRoom) × (waiting ≤ 512)
+Within words labels waiting room label_room = (words ≤ room) × (words ≤ 32767) × (labels ≤ label_room) × (waiting ≤ 512)
 
-abbrev pub wordedOf : Added → Counts → Turn
-wordedOf (Added.Next next) n = Turn.Go (record { words = next; labels = n.labels; waiting = n.waiting })
-wordedOf (Added.Refused r) n = Turn.Refused r
+abbrev pub worded_of : Added → Counts → Turn
+worded_of (Added.Next next) n = Turn.Go (record { words = next; labels = n.labels; waiting = n.waiting })
+worded_of (Added.Refused r) n = Turn.Refused r
 
-abbrev pub leftTurn : Left → InstructionIndex → ℕ → Turn
-leftTurn (Left.Count waiting) words labels = Turn.Go (record { words = words; labels = labels; waiting = waiting })
-leftTurn (Left.Refused r) words labels = Turn.Refused r
+abbrev pub left_turn : Left → InstructionIndex → ℕ → Turn
+left_turn (Left.Count waiting) words labels = Turn.Go (record { words = words; labels = labels; waiting = waiting })
+left_turn (Left.Refused r) words labels = Turn.Refused r
 
 -- how an answer to a whole text ends
-abbrev pub wordCount : Assembled → ℕ
-wordCount (Assembled.Accepted words labels waiting) = words
-wordCount (Assembled.Refused r line) = 0
+abbrev pub word_count : Assembled → ℕ
+word_count (Assembled.Accepted words labels waiting) = words
+word_count (Assembled.Refused r line) = 0
 
-abbrev pub labelCount : Assembled → ℕ
-labelCount (Assembled.Accepted words labels waiting) = labels
-labelCount (Assembled.Refused r line) = 0
+abbrev pub label_count : Assembled → ℕ
+label_count (Assembled.Accepted words labels waiting) = labels
+label_count (Assembled.Refused r line) = 0
 
-abbrev pub waitingCount : Assembled → ℕ
-waitingCount (Assembled.Accepted words labels waiting) = waiting
-waitingCount (Assembled.Refused r line) = 0
+abbrev pub waiting_count : Assembled → ℕ
+waiting_count (Assembled.Accepted words labels waiting) = waiting
+waiting_count (Assembled.Refused r line) = 0
 
-abbrev pub acceptedOf : Counts → Assembled
-acceptedOf n = Assembled.Accepted n.words.0 n.labels n.waiting
+abbrev pub accepted_of : Counts → Assembled
+accepted_of n = Assembled.Accepted n.words.0 n.labels n.waiting
 
 abbrev pub ended : Assembled → List ℕ → List Label → List Open → Outcome
 ended (Assembled.Accepted n k m) words labels waiting =
@@ -190,5 +190,5 @@ ended (Assembled.Refused r line) words labels waiting = refused (number_of r) li
 -- the answer's counts and the arrays' first words and labels are those of an outcome
 pub record EndedWith (a : Assembled) (words : List ℕ) (labels : List Label) (o : Outcome) : Type 0 where
   pub answer : reported a ≡ report o
-  pub words-end : take (wordCount a) words ≡ words_of o
-  pub labels-end : take (labelCount a) labels ≡ labelsLeft o
+  pub words-end : take (word_count a) words ≡ words_of o
+  pub labels-end : take (label_count a) labels ≡ labels_left o

@@ -1,6 +1,6 @@
 // The word of an instruction, under the rules. What strict assembly refuses is said in `strict_word` alone.
 ghost use Rattle.std.specs.Prelude.{◌≡◌};
-ghost use Rattle.asm.specs.Words.{toldWord, strictWord, wordOf};
+ghost use Rattle.asm.specs.Words.{told_word, strict_word, word_of};
 
 use crate::Rules;
 use base::Refusal;
@@ -13,7 +13,7 @@ pub enum Word {
 }
 
 fn strict_word(i: Instruction) -> Word
-    ensures { toldWord result ≡ strictWord i }
+    ensures { told_word result ≡ strict_word i }
 {
     if !fits(i) {
         return Word::Refused(Refusal::FieldTooWide);
@@ -25,7 +25,7 @@ fn strict_word(i: Instruction) -> Word
 }
 
 pub fn word_of(rules: Rules, i: Instruction) -> Word
-    ensures { toldWord result ≡ wordOf rules.strict i }
+    ensures { told_word result ≡ word_of rules.strict i }
 {
     if rules.strict {
         strict_word(i)

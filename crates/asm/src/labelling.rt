@@ -8,7 +8,7 @@ ghost use Rattle.labels.specs.Opens.{opens_of};
 ghost use Rattle.asm.specs.Labels.{part};
 ghost use Rattle.asm.specs.Reading.{end_of};
 ghost use Rattle.asm.specs.Work.{task, labelled};
-ghost use Rattle.asm.specs.Views.{slot_of, used, usedOf, slotFor, labelFor, leftTurn, workOf, turned, words_in, labelsIn, waitingIn, Within};
+ghost use Rattle.asm.specs.Views.{slot_of, used, used_of, slot_for, label_for, left_turn, work_of, turned, words_in, labels_in, waiting_in, Within};
 
 use crate::patching::{Left, patch};
 use crate::{Counts, Entry, Line, Rules, Turn};
@@ -47,7 +47,7 @@ fn no_entry(most: usize) -> Entry
 
 // How many entries are used after it.
 fn used(found: Found, count: usize, most: usize) -> Defined
-    ensures { used result ≡ usedOf found count most }
+    ensures { used result ≡ used_of found count most }
 {
     match found {
         Found::At(_, _) => Defined::Count(count),
@@ -77,7 +77,7 @@ fn label_here(place: usize, size: usize, here: InstructionIndex) -> Label
 // it is a label's.
 pub fn entry_for(line: Line, at: usize, f: Found, n: Counts, most: usize) -> Entry
     requires { (at + end_of line ≤ 18446744073709551615) × (n.words.0 ≤ 32767) }
-    ensures { (result.slot ≡ slotFor line f n.labels most) × (result.label ≡ labelFor line at n.words.0) }
+    ensures { (result.slot ≡ slot_for line f n.labels most) × (result.label ≡ label_for line at n.words.0) }
 {
     match line {
         Line::Label(start, size) => Entry {
@@ -93,7 +93,7 @@ pub fn entry_for(line: Line, at: usize, f: Found, n: Counts, most: usize) -> Ent
 
 // With so many words and labels, after the open references were gone through.
 pub fn after(left: Left, words: InstructionIndex, labels: usize) -> Turn
-    ensures { result ≡ leftTurn left words labels }
+    ensures { result ≡ left_turn left words labels }
 {
     match left {
         Left::Count(waiting) => Turn::Go(Counts {
@@ -126,8 +126,8 @@ pub fn label_line(
     ensures o_references_after { (ls : List Label) → length ls ≡ most → f ≡ find text.now (part text.now place size) (take n.labels ls) →
         turned result words.new (set ls (slot_of f n.labels) (label place size (doubled n.words.0))) (opens_of o_places.new o_lengths.new o_words.new o_references.new)
         ≡ labelled (task rules.strict text.now (length words.old) most) place size
-        (workOf n words.old ls (opens_of o_places.old o_lengths.old o_words.old o_references.old)) }
-    ensures within_2 { Within (words_in result) (labelsIn result) (waitingIn result) (length words.old) most }
+        (work_of n words.old ls (opens_of o_places.old o_lengths.old o_words.old o_references.old)) }
+    ensures within_2 { Within (words_in result) (labels_in result) (waiting_in result) (length words.old) most }
 {
     let here = n.words;
     let d = used(f, n.labels, most);

@@ -2,9 +2,9 @@
 ghost use Rattle.std.specs.Prelude.{◌≡◌, ◌≤◌, ◌<◌, length, take};
 ghost use Rattle.labels.specs.Opens.{opens_of};
 ghost use Rattle.parser.specs.References.{resolved};
-ghost use Rattle.asm.specs.Words.{wordOf};
-ghost use Rattle.asm.specs.Labels.{addOpen, patch};
-ghost use Rattle.asm.specs.Views.{opened, left, left_of, put, settled, stepped, patchOne, patched};
+ghost use Rattle.asm.specs.Words.{word_of};
+ghost use Rattle.asm.specs.Labels.{add_open, patch};
+ghost use Rattle.asm.specs.Views.{opened, left, left_of, put, settled, stepped, patch_one, patched};
 
 use crate::Rules;
 use crate::encoding::{Word, word_of};
@@ -32,7 +32,7 @@ pub fn add_open(
     requires in_bounds { 512 ≤ length (opens_of places.old lengths.old words.old references.old) }
     requires count_bound { count ≤ 512 }
     ensures references_after { opened result (opens_of places.new lengths.new words.new references.new)
-        ≡ addOpen o (take count (opens_of places.old lengths.old words.old references.old)) }
+        ≡ add_open o (take count (opens_of places.old lengths.old words.old references.old)) }
     ensures result_bound { left_of result ≤ 512 }
 {
     if count < 512 {
@@ -47,8 +47,8 @@ pub fn add_open(
 // open.
 fn settle(rules: Rules, o: Open, address: ByteAddress, kept: usize, output: &mut [u16]) -> Left
     requires { address.0 ≤ 65535 }
-    ensures result_value { left result ≡ settled (wordOf rules.strict (resolved o.reference address.0)) kept }
-    ensures output_after { output.new ≡ put (wordOf rules.strict (resolved o.reference address.0)) o.word.0 output.old }
+    ensures result_value { left result ≡ settled (word_of rules.strict (resolved o.reference address.0)) kept }
+    ensures output_after { output.new ≡ put (word_of rules.strict (resolved o.reference address.0)) o.word.0 output.old }
 {
     let what = o.reference;
     let w = word_of(rules, resolved(what, address.0 as u16));
@@ -78,7 +78,7 @@ fn patch_one(
     requires kept_le_i { (kept ≤ i) × (i < 512) × (address.0 ≤ 65535) }
     requires i_in_bounds { i < length (opens_of places.old lengths.old words.old references.old) }
     ensures { stepped result output.new (opens_of places.new lengths.new words.new references.new)
-        ≡ patchOne rules.strict text.now name.now address.0 i kept output.old
+        ≡ patch_one rules.strict text.now name.now address.0 i kept output.old
         (opens_of places.old lengths.old words.old references.old) }
 {
     let o = open_at(&places[..], &lengths[..], &words[..], &references[..], i);

@@ -1,11 +1,11 @@
 // A line that refers to a label.
 ghost use Rattle.std.specs.Prelude.{◌≡◌, List, ℕ, ◌≤◌, length, take};
 ghost use Rattle.labels.specs.Labels.{find};
-ghost use Rattle.labels.specs.Opens.{opens_of, openTo};
+ghost use Rattle.labels.specs.Opens.{opens_of, open_to};
 ghost use Rattle.labels.specs.declared.Label.{Label};
 ghost use Rattle.asm.specs.Labels.{part};
 ghost use Rattle.asm.specs.Work.{Task, task, opens, references};
-ghost use Rattle.asm.specs.Views.{workOf, turned, words_in, labelsIn, waitingIn};
+ghost use Rattle.asm.specs.Views.{work_of, turned, words_in, labels_in, waiting_in};
 
 use crate::labelling::after;
 use crate::patching::add_open;
@@ -29,11 +29,11 @@ fn open_reference(
 ) -> Turn
     requires words_in_bounds { (n.words.0 ≤ length words.old) × (n.words.0 ≤ 32767) × (n.waiting ≤ 512) }
     requires o_places_len { (length o_places.old ≡ 512) × (length o_lengths.old ≡ 512) × (length o_words.old ≡ 512) × (length o_references.old ≡ 512) }
-    ensures o_references_after { (t : Task) → (labels : List Label) → t.wordRoom ≡ length words.old →
+    ensures o_references_after { (t : Task) → (labels : List Label) → t.word_room ≡ length words.old →
         turned result words.new labels (opens_of o_places.new o_lengths.new o_words.new o_references.new)
-        ≡ opens t (openTo place size n.words.0 reference)
-        (workOf n words.old labels (opens_of o_places.old o_lengths.old o_words.old o_references.old)) }
-    ensures result_in_bounds { (words_in result ≤ length words.old) × (words_in result ≤ 32767) × (waitingIn result ≤ 512) × (labelsIn result ≤ n.labels) }
+        ≡ opens t (open_to place size n.words.0 reference)
+        (work_of n words.old labels (opens_of o_places.old o_lengths.old o_words.old o_references.old)) }
+    ensures result_in_bounds { (words_in result ≤ length words.old) × (words_in result ≤ 32767) × (waiting_in result ≤ 512) × (labels_in result ≤ n.labels) }
 {
     let here = n.words;
     let o = Open {
@@ -71,8 +71,8 @@ pub fn refer(
     ensures by_index { (text : List ℕ) → (ls : List Label) → (most : ℕ) → f ≡ find text (part text place size) (take n.labels ls) →
         turned result words.new ls (opens_of o_places.new o_lengths.new o_words.new o_references.new)
         ≡ references (task rules.strict text (length words.old) most) reference place size
-        (workOf n words.old ls (opens_of o_places.old o_lengths.old o_words.old o_references.old)) }
-    ensures result_in_bounds { (words_in result ≤ length words.old) × (words_in result ≤ 32767) × (waitingIn result ≤ 512) × (labelsIn result ≤ n.labels) }
+        (work_of n words.old ls (opens_of o_places.old o_lengths.old o_words.old o_references.old)) }
+    ensures result_in_bounds { (words_in result ≤ length words.old) × (words_in result ≤ 32767) × (waiting_in result ≤ 512) × (labels_in result ≤ n.labels) }
 {
     match f {
         Found::At(_, address) => {

@@ -4,9 +4,9 @@ ghost use Rattle.labels.specs.declared.Label.{Label};
 ghost use Rattle.labels.specs.Labels.{find};
 ghost use Rattle.labels.specs.Opens.{opens_of};
 ghost use Rattle.asm.specs.Labels.{part};
-ghost use Rattle.asm.specs.Reading.{toldItem, end_of};
+ghost use Rattle.asm.specs.Reading.{told_item, end_of};
 ghost use Rattle.asm.specs.Work.{task, turn};
-ghost use Rattle.asm.specs.Views.{workOf, turned, words_in, labelsIn, waitingIn, wordedOf, name_at, slotFor, labelFor, Within};
+ghost use Rattle.asm.specs.Views.{work_of, turned, words_in, labels_in, waiting_in, worded_of, name_at, slot_for, label_for, Within};
 
 use crate::labelling::label_line;
 use crate::referring::refer;
@@ -16,7 +16,7 @@ use labels::Found;
 
 // After one word more.
 pub fn worded(added: Added, n: Counts) -> Turn
-    ensures { result ≡ wordedOf added n }
+    ensures { result ≡ worded_of added n }
 {
     match added {
         Added::Next(next) => Turn::Go(Counts {
@@ -70,10 +70,10 @@ pub fn do_line(
     requires within { Within n.words.0 n.labels n.waiting (length words.old) most }
     requires o_places_len { (length o_places.old ≡ 512) × (length o_lengths.old ≡ 512) × (length o_words.old ≡ 512) × (length o_references.old ≡ 512) }
     ensures o_references_after { (ls : List Label) → length ls ≡ most → f ≡ find text.now (name_at text.now at line) (take n.labels ls) →
-        turned result words.new (set ls (slotFor line f n.labels most) (labelFor line at n.words.0)) (opens_of o_places.new o_lengths.new o_words.new o_references.new)
-        ≡ turn (task rules.strict text.now (length words.old) most) at (toldItem line)
-        (workOf n words.old ls (opens_of o_places.old o_lengths.old o_words.old o_references.old)) }
-    ensures within_2 { Within (words_in result) (labelsIn result) (waitingIn result) (length words.old) most }
+        turned result words.new (set ls (slot_for line f n.labels most) (label_for line at n.words.0)) (opens_of o_places.new o_lengths.new o_words.new o_references.new)
+        ≡ turn (task rules.strict text.now (length words.old) most) at (told_item line)
+        (work_of n words.old ls (opens_of o_places.old o_lengths.old o_words.old o_references.old)) }
+    ensures within_2 { Within (words_in result) (labels_in result) (waiting_in result) (length words.old) most }
 {
     match line {
         Line::Skip => Turn::Go(n),

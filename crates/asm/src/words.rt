@@ -1,6 +1,6 @@
 // The words so far, in the first places of the output.
 ghost use Rattle.std.specs.Prelude.{◌≡◌, ◌≤◌, length, take, set};
-ghost use Rattle.asm.specs.Words.{addWord, addInstruction};
+ghost use Rattle.asm.specs.Words.{add_word, add_instruction};
 ghost use Rattle.asm.specs.Views.{added, next_of};
 
 use crate::Rules;
@@ -28,7 +28,7 @@ pub fn put_word(words: &mut [u16], at: InstructionIndex, w: u16)
 // One word more, as instruction `at`.
 pub fn add_word(words: &mut [u16], at: InstructionIndex, w: u16) -> Added
     requires { at.0 ≤ length words.old }
-    ensures words_after { added result words.new ≡ addWord (length words.old) w (take at.0 words.old) }
+    ensures words_after { added result words.new ≡ add_word (length words.old) w (take at.0 words.old) }
     ensures result_in_bounds { (next_of result ≤ length words.old) × (next_of result ≤ 32767) }
 {
     if (at.0 as usize) < words.len() {
@@ -48,7 +48,7 @@ pub fn add_instruction(
     i: Instruction,
 ) -> Added
     requires { at.0 ≤ length words.old }
-    ensures words_after { added result words.new ≡ addInstruction rules.strict (length words.old) i (take at.0 words.old) }
+    ensures words_after { added result words.new ≡ add_instruction rules.strict (length words.old) i (take at.0 words.old) }
     ensures result_in_bounds { (next_of result ≤ length words.old) × (next_of result ≤ 32767) }
 {
     let w = word_of(rules, i);

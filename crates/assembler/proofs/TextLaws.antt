@@ -5,20 +5,20 @@ use mathlib.Core.Bool.{Bool}
 use mathlib.Core.List.{List}
 use mathlib.Core.Path.{◌≡◌, ◌∙◌, ap}
 use Rattle.labels.specs.declared.Label.{Label}
-use Rattle.asm.specs.Assemble.{Outcome, outcome, filled, words_of, labelsLeft, report, reported}
-use Rattle.asm.specs.Views.{EndedWith, wordCount, labelCount}
+use Rattle.asm.specs.Assemble.{Outcome, outcome, filled, words_of, labels_left, report, reported}
+use Rattle.asm.specs.Views.{EndedWith, word_count, label_count}
 use Rattle.asm.specs.declared.Assembled.{Assembled}
 use Rattle.table.specs.Table as Table
 
 module _ (a : Assembled) (ws : List ℕ) (ls : List Label) (o : Outcome) (end : EndedWith a ws ls o) where
   -- cleared from the k-th on, where the answer counts k
-  pub words-cleared : (n k : ℕ) (zs : List ℕ) → length ws ≡ n → k ≡ wordCount a → zs ≡ filled (length ws) (take k ws) → zs ≡ filled n (words_of o)
+  pub words-cleared : (n k : ℕ) (zs : List ℕ) → length ws ≡ n → k ≡ word_count a → zs ≡ filled (length ws) (take k ws) → zs ≡ filled n (words_of o)
   words-cleared n k zs l c e =
       e ∙ ap (λ (m : ℕ). filled (length ws) (take m ws)) c ∙ ap (filled (length ws)) end.words-end ∙ ap (λ (m : ℕ). filled m (words_of o)) l
 
-  pub labels-cleared : (n k : ℕ) (zs : List Label) → length ls ≡ n → k ≡ labelCount a → zs ≡ Table.filled (length ls) (take k ls) → zs ≡ Table.filled n (labelsLeft o)
+  pub labels-cleared : (n k : ℕ) (zs : List Label) → length ls ≡ n → k ≡ label_count a → zs ≡ Table.filled (length ls) (take k ls) → zs ≡ Table.filled n (labels_left o)
   labels-cleared n k zs l c e =
-      e ∙ ap (λ (m : ℕ). Table.filled (length ls) (take m ls)) c ∙ ap (Table.filled (length ls)) end.labels-end ∙ ap (λ (m : ℕ). Table.filled m (labelsLeft o)) l
+      e ∙ ap (λ (m : ℕ). Table.filled (length ls) (take m ls)) c ∙ ap (Table.filled (length ls)) end.labels-end ∙ ap (λ (m : ℕ). Table.filled m (labels_left o)) l
 
 -- a table of n times one entry has room for n labels
 module _ (strict : Bool) (text : List ℕ) (room n : ℕ) (l : Label) where

@@ -7,7 +7,7 @@ use Rattle.asm.specs.declared.Assembled.TheVariants as Assembled
 use Rattle.asm.specs.declared.Counts.{Counts}
 use Rattle.asm.specs.declared.Turn.{Turn}
 use Rattle.asm.specs.declared.Turn.TheVariants.{Go, Refused}
-use Rattle.asm.specs.Views.{acceptedOf}
+use Rattle.asm.specs.Views.{accepted_of}
 
 abbrev pub none : Counts
 none = record { words = record { 0 = 0 }; labels = 0; waiting = 0 }
@@ -17,15 +17,15 @@ abbrev pub start_of : ℕ → Turn
 start_of foreign = cond (eqb foreign 0) (Go none) (Refused NotAscii)
 
 -- is there a line to read, and none refused yet?
-abbrev pub goesOn : Bool → Turn → Bool
-goesOn more (Go n) = more
-goesOn more (Refused r) = false
+abbrev pub goes_on : Bool → Turn → Bool
+goes_on more (Go n) = more
+goes_on more (Refused r) = false
 
-abbrev pub countsOf : Turn → Counts
-countsOf (Go n) = n
-countsOf (Refused r) = none
+abbrev pub counts_of : Turn → Counts
+counts_of (Go n) = n
+counts_of (Refused r) = none
 
 -- `line` being the last line that was read
-abbrev pub endedAt : Turn → ℕ → Assembled
-endedAt (Go n) line = acceptedOf n
-endedAt (Refused r) line = Assembled.Refused r line
+abbrev pub ended_at : Turn → ℕ → Assembled
+ended_at (Go n) line = accepted_of n
+ended_at (Refused r) line = Assembled.Refused r line

@@ -1,13 +1,13 @@
 // How a text's assembling starts, whether it goes on, and what it answers.
 ghost use Rattle.std.specs.Prelude.{◌≡◌};
-ghost use Rattle.asm.specs.Views.{wordCount, labelCount};
-ghost use Rattle.assembler.specs.Turns.{start_of, goesOn, countsOf, endedAt};
+ghost use Rattle.asm.specs.Views.{word_count, label_count};
+ghost use Rattle.assembler.specs.Turns.{start_of, goes_on, counts_of, ended_at};
 
 use asm::{Assembled, Counts, Turn};
 use base::{InstructionIndex, Refusal};
 
 fn none() -> Counts
-    ensures { result ≡ countsOf (start_of 1) }
+    ensures { result ≡ counts_of (start_of 1) }
 {
     Counts {
         words: InstructionIndex(0),
@@ -29,7 +29,7 @@ pub fn start(foreign: usize) -> Turn
 
 // Is there a line to read, and none refused yet?
 pub fn goes_on(more: bool, t: Turn) -> bool
-    ensures { result ≡ goesOn more t }
+    ensures { result ≡ goes_on more t }
 {
     match t {
         Turn::Go(_) => more,
@@ -39,7 +39,7 @@ pub fn goes_on(more: bool, t: Turn) -> bool
 
 // How many words, labels and open references there are; none after a refusal.
 pub fn counts(t: Turn) -> Counts
-    ensures { result ≡ countsOf t }
+    ensures { result ≡ counts_of t }
 {
     match t {
         Turn::Go(n) => n,
@@ -49,7 +49,7 @@ pub fn counts(t: Turn) -> Counts
 
 // The answer, `line` being the last line that was read.
 pub fn ended_at(t: Turn, line: usize) -> Assembled
-    ensures { result ≡ endedAt t line }
+    ensures { result ≡ ended_at t line }
 {
     match t {
         Turn::Go(n) => {
@@ -62,7 +62,7 @@ pub fn ended_at(t: Turn, line: usize) -> Assembled
 
 // How many words and labels an answer leaves.
 pub fn words_left(a: Assembled) -> usize
-    ensures { result ≡ wordCount a }
+    ensures { result ≡ word_count a }
 {
     match a {
         Assembled::Accepted(words, _, _) => words,
@@ -71,7 +71,7 @@ pub fn words_left(a: Assembled) -> usize
 }
 
 pub fn labels_left(a: Assembled) -> usize
-    ensures { result ≡ labelCount a }
+    ensures { result ≡ label_count a }
 {
     match a {
         Assembled::Accepted(_, labels, _) => labels,

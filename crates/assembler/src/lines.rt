@@ -4,7 +4,7 @@ ghost use Rattle.labels.specs.Opens.{opens_of};
 ghost use Rattle.asm.specs.Reading.{read};
 ghost use Rattle.asm.specs.Work.{task, turn};
 ghost use Rattle.asm.specs.Assemble.{outcome};
-ghost use Rattle.asm.specs.Views.{workOf, turned, words_in, labelsIn, waitingIn, Within, EndedWith, wordCount, labelCount};
+ghost use Rattle.asm.specs.Views.{work_of, turned, words_in, labels_in, waiting_in, Within, EndedWith, word_count, label_count};
 
 use crate::answers::{counts, ended_at, goes_on, start};
 use asm::{Assembled, Counts, Rules, Turn, do_line, entry_for, name_in, read_line};
@@ -31,8 +31,8 @@ fn one_line(
     requires o_places_len { (length o_places.old ≡ 512) × (length o_lengths.old ≡ 512) × (length o_words.old ≡ 512) × (length o_references.old ≡ 512) }
     ensures o_references_after { turned result words.new table.new (opens_of o_places.new o_lengths.new o_words.new o_references.new)
         ≡ turn (task rules.strict text.now (length words.old) (length table.old)) at (read line.now)
-        (workOf n words.old table.old (opens_of o_places.old o_lengths.old o_words.old o_references.old)) }
-    ensures within_2 { Within (words_in result) (labelsIn result) (waitingIn result) (length words.old) (length table.old) }
+        (work_of n words.old table.old (opens_of o_places.old o_lengths.old o_words.old o_references.old)) }
+    ensures within_2 { Within (words_in result) (labels_in result) (waiting_in result) (length words.old) (length table.old) }
 {
     let item = read_line(line);
     let most = table.len();
@@ -69,7 +69,7 @@ pub fn assemble_lines(
 ) -> Assembled
     requires { (length o_places.old ≡ 512) × (length o_lengths.old ≡ 512) × (length o_words.old ≡ 512) × (length o_references.old ≡ 512) }
     ensures ended_with { EndedWith result words.new table.new (outcome rules.strict text.now (length words.old) (length table.old)) }
-    ensures result_in_bounds { (wordCount result ≤ length words.old) × (labelCount result ≤ length table.old) }
+    ensures result_in_bounds { (word_count result ≤ length words.old) × (label_count result ≤ length table.old) }
 {
     let mut number = foreign_line(text);
     let mut t = start(number);

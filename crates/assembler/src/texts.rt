@@ -1,6 +1,6 @@
 // A whole text, and what is left in what was lent.
 ghost use Rattle.std.specs.Prelude.{◌≡◌, length};
-ghost use Rattle.asm.specs.Assemble.{outcome, words_of, labelsLeft, filled, report, reported};
+ghost use Rattle.asm.specs.Assemble.{outcome, words_of, labels_left, filled, report, reported};
 ghost use Rattle.table.specs.Table as Table;
 
 use crate::answers::{labels_left, words_left};
@@ -13,7 +13,7 @@ use table::clear;
 pub fn assemble(rules: Rules, text: &[u8], words: &mut [u16], table: &mut [Label]) -> Assembled
     ensures result_value { reported result ≡ report (outcome rules.strict text.now (length words.old) (length table.old)) }
     ensures words_after { words.new ≡ filled (length words.old) (words_of (outcome rules.strict text.now (length words.old) (length table.old))) }
-    ensures table_after { table.new ≡ Table.filled (length table.old) (labelsLeft (outcome rules.strict text.now (length words.old) (length table.old))) }
+    ensures table_after { table.new ≡ Table.filled (length table.old) (labels_left (outcome rules.strict text.now (length words.old) (length table.old))) }
 {
     let mut o_places = [0usize; 512];
     let mut o_lengths = [0usize; 512];

@@ -3,7 +3,7 @@ use mathlib.Core.Path.{◌≡◌, refl, sym, ap, ◌∙◌}
 use mathlib.Core.List.{List, [], ◌∷◌, map}
 use Prim.Native.Nat.{ℕ}
 use lib.ListN.{get_or}
-use Rattle.base.specs.Numbers.{number_of, answerNumber}
+use Rattle.base.specs.Numbers.{number_of, answer_number}
 use Rattle.base.specs.declared.refusals.Refusal.{Refusal}
 use Rattle.base.specs.declared.refusals.Refusal.TheVariants.{BadState, FetchUnmapped, AddressOverflow, BadOpcode, BadCompare, BadArith, ArithOverflow, DivideByZero, PcOverflow, NothingToUndo, BadJournal, RangeOverflow, Overlap, TableFull, WriteFailed, TooLong, NoDeviceRoom, BadRegister, NoRoom, InvalidRegister, InvalidOperands, InvalidInstruction, InvalidFormat, InvalidImmediate, UnresolvedLabel, NotAscii, TooManyLabels, TooManyFixups, ProgramFull, FieldTooWide, BadBlock, NotDecodable, NoText}
 use Rattle.base.specs.declared.refusals.Answer.{Answer}
@@ -59,12 +59,12 @@ found BadBlock = refl
 found NotDecodable = refl
 found NoText = refl
 
-back : (a : Answer) → get_or answers (answerNumber a) Accepted ≡ a
+back : (a : Answer) → get_or answers (answer_number a) Accepted ≡ a
 unfolding answers
 back Accepted = refl
 back (Refused r) = found r
 
-pub answer-one : (a b : Answer) → answerNumber a ≡ answerNumber b → a ≡ b
+pub answer-one : (a b : Answer) → answer_number a ≡ answer_number b → a ≡ b
 answer-one a b e = sym (back a) ∙ ap (λ (n : ℕ). get_or answers n Accepted) e ∙ back b
 
 pub number-one : (r q : Refusal) → number_of r ≡ number_of q → r ≡ q

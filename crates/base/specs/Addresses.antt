@@ -9,17 +9,17 @@ unfoldable pub reached : ℕ → Reached
 reached n = cond (leb n 65535) (At n) Past
 
 -- the second address of a word
-abbrev pub secondAddress : ℕ → Reached
-secondAddress a = reached (a + 1)
+abbrev pub second_address : ℕ → Reached
+second_address a = reached (a + 1)
 
-abbrev pub basePlusShift : ℕ → ℕ → Reached
-basePlusShift base shift = reached (base + shift)
+abbrev pub base_plus_shift : ℕ → ℕ → Reached
+base_plus_shift base shift = reached (base + shift)
 
 -- PC is raised by 2
-abbrev pub raisedPc : ℕ → Reached
-raisedPc pc = reached (pc + 2)
+abbrev pub raised_pc : ℕ → Reached
+raised_pc pc = reached (pc + 2)
 
 -- the address, or a refusal with this number where it is past the last one
-abbrev pub addressOr : ℕ → Reached → Told ℕ
-addressOr n (At a) = is a
-addressOr n Past = no n
+abbrev pub address_or : ℕ → Reached → Told ℕ
+address_or n (At a) = is a
+address_or n Past = no n

@@ -41,6 +41,6 @@ number_of NotDecodable = 32
 number_of NoText = 33
 
 -- 0 where an entry accepts
-abbrev pub answerNumber : Answer → ℕ
-answerNumber Accepted = 0
-answerNumber (Refused r) = number_of r
+abbrev pub answer_number : Answer → ℕ
+answer_number Accepted = 0
+answer_number (Refused r) = number_of r

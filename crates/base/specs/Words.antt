@@ -1,8 +1,8 @@
 -- A word's two bytes, the low one first, and the byte address of an instruction.
 use Rattle.std.specs.Prelude.{ℕ, ◌+◌, ◌*◌, ◌/◌, ◌%◌}
 
-abbrev pub wordOf : ℕ → ℕ → ℕ
-wordOf low high = low + 256 * high
+abbrev pub word_of : ℕ → ℕ → ℕ
+word_of low high = low + 256 * high
 
 abbrev pub low_of : ℕ → ℕ
 low_of w = w % 256

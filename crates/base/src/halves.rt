@@ -1,9 +1,9 @@
 // A word is two bytes, the low one first.
 ghost use Rattle.std.specs.Prelude.{◌≡◌};
-ghost use Rattle.base.specs.Words.{wordOf, low_of, high_of};
+ghost use Rattle.base.specs.Words.{word_of, low_of, high_of};
 
 pub fn word(low: u8, high: u8) -> u16
-    ensures { result ≡ wordOf low high }
+    ensures { result ≡ word_of low high }
 {
     low as u16 + 256 * (high as u16)
 }

@@ -9,7 +9,7 @@ use Rattle.base.specs.Words.{low_of}
 use Rattle.wordbytes.specs.Words.{bytes_of}
 use Rattle.wordbytes.proofs.Parts.{sets-next}
 use Rattle.journal.specs.declared.State.{State}
-use Rattle.block.specs.Block.{regionWords, deviceWords, flag, packed}
+use Rattle.block.specs.Block.{region_words, device_words, flag, packed}
 use Rattle.block.proofs.Laws.{Shaped, length-registers, length-regions, length-devices, length-packed}
 
 module _ (s : State) (e : Shaped s) where
@@ -19,16 +19,16 @@ module _ (s : State) (e : Shaped s) where
       0 (bytes_of s.machine.registers.value))
       16 (flag s.machine.mode.debug))
       17 (low_of s.machine.map.regions))
-      18 (bytes_of (regionWords s.machine.map.region)))
+      18 (bytes_of (region_words s.machine.map.region)))
       50 (low_of s.machine.map.devices))
-      51 (bytes_of (deviceWords s.machine.map.device)))
+      51 (bytes_of (device_words s.machine.map.device)))
       83 (bytes_of (s.next ∷ s.held ∷ []))
       ≡ packed s
   unfolding packed
   packed-parts b h =
       let a = bytes_of s.machine.registers.value in
-      let x = flag s.machine.mode.debug ∷ low_of s.machine.map.regions ∷ bytes_of (regionWords s.machine.map.region) in
-      let y = low_of s.machine.map.devices ∷ bytes_of (deviceWords s.machine.map.device) in
+      let x = flag s.machine.mode.debug ∷ low_of s.machine.map.regions ∷ bytes_of (region_words s.machine.map.region) in
+      let y = low_of s.machine.map.devices ∷ bytes_of (device_words s.machine.map.device) in
       let z = bytes_of (s.next ∷ s.held ∷ []) in
       let ax : 0 + length (a ++ x) ≡ 50 = omega (arith, length-append a x, length-registers s e, length-regions s e) in
       let axy : 0 + length (a ++ x ++ y) ≡ 83 = omega (arith, length-append (a ++ x) y, length-devices s e) in

@@ -10,7 +10,7 @@ use borrow.Author.Tests.{eqb-true, leb-true, eq-eqb}
 use native.Mathlib.Nat.{mod-add-div}
 use native.Mathlib.Omega.{arith}
 use Rattle.base.specs.Words.{low_of}
-use Rattle.wordbytes.specs.Words.{bytes_of, word_at, wordsFrom, are_bytes}
+use Rattle.wordbytes.specs.Words.{bytes_of, word_at, words_from, are_bytes}
 use Rattle.wordbytes.proofs.Laws.{length-bytes, length-words, words_back, bytes_pair, are_at, are-rest, bytes-front}
 use Rattle.wordbytes.proofs.Parts.{words-none, words-pair}
 use Rattle.map.proofs.Laws.{few-regions, few-devices}
@@ -20,8 +20,8 @@ use Rattle.machine.proofs.StateLaws.{valid-tables}
 use Rattle.journal.specs.States.{state, valid}
 use Rattle.journal.specs.declared.State.{State}
 use Rattle.journal.proofs.StateLaws.{valid-machine}
-use Rattle.block.specs.Block.{regionWords, deviceWords, flag, packed, regionsFrom, devicesFrom, unpacked, isBlock}
-use Rattle.block.proofs.Tables.{Entries, Table, regionTable, deviceTable, table-length, table-count, table-shift, table-back, table-words}
+use Rattle.block.specs.Block.{region_words, device_words, flag, packed, regions_from, devices_from, unpacked, is_block}
+use Rattle.block.proofs.Tables.{Entries, Table, region_table, device_table, table-length, table-count, table-shift, table-back, table-words}
 
 -- a state whose three arrays have eight entries, as the code's have
 pub record Shaped (s : State) : Type 0 where
@@ -34,18 +34,18 @@ module _ (s : State) (e : Shaped s) where
   pub length-registers : length (bytes_of s.machine.registers.value) ≡ 16
   length-registers = length-bytes s.machine.registers.value ∙ ap (λ (k : ℕ). 2 * k) e.registers
 
-  pub length-regions : length (bytes_of (regionWords s.machine.map.region)) ≡ 32
-  length-regions = table-length regionTable s.machine.map.region e.tables.regions
+  pub length-regions : length (bytes_of (region_words s.machine.map.region)) ≡ 32
+  length-regions = table-length region_table s.machine.map.region e.tables.regions
 
-  pub length-devices : length (bytes_of (deviceWords s.machine.map.device)) ≡ 32
-  length-devices = table-length deviceTable s.machine.map.device e.tables.devices
+  pub length-devices : length (bytes_of (device_words s.machine.map.device)) ≡ 32
+  length-devices = table-length device_table s.machine.map.device e.tables.devices
 
   pub length-packed : length (packed s) ≡ 87
   unfolding packed
   length-packed =
       let a = bytes_of s.machine.registers.value in
-      let x = flag s.machine.mode.debug ∷ low_of s.machine.map.regions ∷ bytes_of (regionWords s.machine.map.region) in
-      let y = low_of s.machine.map.devices ∷ bytes_of (deviceWords s.machine.map.device) in
+      let x = flag s.machine.mode.debug ∷ low_of s.machine.map.regions ∷ bytes_of (region_words s.machine.map.region) in
+      let y = low_of s.machine.map.devices ∷ bytes_of (device_words s.machine.map.device) in
       let z = bytes_of (s.next ∷ s.held ∷ []) in
       omega (
         arith,
@@ -65,17 +65,17 @@ abbrev parted : List ℕ → List ℕ → List ℕ → List ℕ → State
 parted g x y z =
     state
     (record {
-      registers = record { value = wordsFrom 8 g };
+      registers = record { value = words_from 8 g };
       mode = record { debug = eqb (get_or x 0 0) 1 };
-      map = record { regions = get_or x 1 0; region = regionsFrom 8 (drop 2 x) 0; devices = get_or y 0 0; device = devicesFrom 8 (drop 1 y) 0 };
+      map = record { regions = get_or x 1 0; region = regions_from 8 (drop 2 x) 0; devices = get_or y 0 0; device = devices_from 8 (drop 1 y) 0 };
     })
     (word_at z 0) (word_at z 2)
 
 unpacked-parted : (b : List ℕ) → unpacked b ≡ parted b (drop 16 b) (drop 50 b) (drop 83 b)
 unfolding unpacked
 unpacked-parted b =
-    let r : regionsFrom 8 (drop 18 b) 0 ≡ regionsFrom 8 b 18 = table-shift regionTable 8 18 0 b in
-    let d : devicesFrom 8 (drop 51 b) 0 ≡ devicesFrom 8 b 51 = table-shift deviceTable 8 51 0 b in
+    let r : regions_from 8 (drop 18 b) 0 ≡ regions_from 8 b 18 = table-shift region_table 8 18 0 b in
+    let d : devices_from 8 (drop 51 b) 0 ≡ devices_from 8 b 51 = table-shift device_table 8 51 0 b in
     simp (get_or-drop, drop-drop, r, d)
 
 -- ---- a state's block, unpacked
@@ -92,10 +92,10 @@ module _ (s : State) (e : Shaped s) where
   registers = bytes_of s.machine.registers.value
 
   abbrev regions : List ℕ
-  regions = bytes_of (regionWords s.machine.map.region)
+  regions = bytes_of (region_words s.machine.map.region)
 
   abbrev devices : List ℕ
-  devices = bytes_of (deviceWords s.machine.map.device)
+  devices = bytes_of (device_words s.machine.map.device)
 
   abbrev last : List ℕ
   last = bytes_of (s.next ∷ s.held ∷ [])
@@ -123,14 +123,14 @@ module _ (s : State) (e : Shaped s) where
   at_last : drop 83 (packed s) ≡ last
   at_last = sym (drop-drop 33 50 (packed s)) ∙ rw at-devices (drop_at devices last 32 (length-devices s e))
 
-  registers-in : wordsFrom 8 (packed s) ≡ s.machine.registers.value
-  registers-in = ap (λ (n : ℕ). wordsFrom n (packed s)) (sym e.registers) ∙ rw packed-flat (words_back s.machine.registers.value from-debug)
+  registers-in : words_from 8 (packed s) ≡ s.machine.registers.value
+  registers-in = ap (λ (n : ℕ). words_from n (packed s)) (sym e.registers) ∙ rw packed-flat (words_back s.machine.registers.value from-debug)
 
-  regions-in : regionsFrom 8 (regions ++ from-devices) 0 ≡ s.machine.map.region
-  regions-in = ap (λ (n : ℕ). regionsFrom n (regions ++ from-devices) 0) (sym e.tables.regions) ∙ table-back regionTable s.machine.map.region from-devices
+  regions-in : regions_from 8 (regions ++ from-devices) 0 ≡ s.machine.map.region
+  regions-in = ap (λ (n : ℕ). regions_from n (regions ++ from-devices) 0) (sym e.tables.regions) ∙ table-back region_table s.machine.map.region from-devices
 
-  devices-in : devicesFrom 8 (devices ++ last) 0 ≡ s.machine.map.device
-  devices-in = ap (λ (n : ℕ). devicesFrom n (devices ++ last) 0) (sym e.tables.devices) ∙ table-back deviceTable s.machine.map.device last
+  devices-in : devices_from 8 (devices ++ last) 0 ≡ s.machine.map.device
+  devices-in = ap (λ (n : ℕ). devices_from n (devices ++ last) 0) (sym e.tables.devices) ∙ table-back device_table s.machine.map.device last
 
   pub unpack-pack : s.machine.map.regions < 256 → s.machine.map.devices < 256 → unpacked (packed s) ≡ s
   unpack-pack h k =
@@ -150,8 +150,8 @@ module _ (s : State) (e : Shaped s) where
         mod-add-div s.held 256,
       )
 
-  pub packed-block : isBlock (packed s) ≡ true
-  unfolding isBlock
+  pub packed-block : is_block (packed s) ≡ true
+  unfolding is_block
   packed-block =
       let d : get_or (packed s) 16 0 ≡ flag s.machine.mode.debug = sym (get_or-drop 16 (packed s) 0 0) ∙ ap (λ (l : List ℕ). get_or l 0 0) at-debug in
       rw (eq-eqb (length (packed s)) 87 (length-packed s e), d) (flag_small s.machine.mode.debug)
@@ -171,27 +171,27 @@ pub unpacked-shaped : (b : List ℕ) → Shaped (unpacked b)
 unfolding unpacked
 unpacked-shaped b = record {
   registers = length-words 8 b;
-  tables = record { regions = table-count regionTable 8 18 b; devices = table-count deviceTable 8 51 b };
+  tables = record { regions = table-count region_table 8 18 b; devices = table-count device_table 8 51 b };
 }
 
 -- ---- a block's state, packed
 
-module _ (b : List ℕ) (h : isBlock b ≡ true) where
+module _ (b : List ℕ) (h : is_block b ≡ true) where
   pub block-length : length b ≡ 87
-  unfolding isBlock
+  unfolding is_block
   block-length = eqb-true (length b) 87 (and_left (eqb (length b) 87) (leb (get_or b 16 0) 1) h)
 
   block-debug : get_or b 16 0 ≤ 1
-  unfolding isBlock
+  unfolding is_block
   block-debug = leb-true (get_or b 16 0) 1 (and_right (eqb (length b) 87) (leb (get_or b 16 0) 1) h)
 
 flag-of : (x : ℕ) → x ≤ 1 → flag (eqb x 1) ≡ x
 flag-of zero h = refl
 flag-of (suc x) h = let z : x ≡ 0 = omega arith in rw z
 
-module _ (b : List ℕ) (h : isBlock b ≡ true) (t : are_bytes b ≡ true) where
+module _ (b : List ℕ) (h : is_block b ≡ true) (t : are_bytes b ≡ true) where
   -- words from byte i on
-  words-at : (n i : ℕ) → i + 2 * n ≤ 87 → bytes_of (wordsFrom n (drop i b)) ≡ take (2 * n) (drop i b)
+  words-at : (n i : ℕ) → i + 2 * n ≤ 87 → bytes_of (words_from n (drop i b)) ≡ take (2 * n) (drop i b)
   words-at n i g = bytes-front n (drop i b) (omega (arith, length-drop i b, block-length b h)) (are-rest i b t)
 
   table_at : {E : Type 0} {d : Entries E} → Table d → (i : ℕ) → i + 32 ≤ 87 → bytes_of (d.words (d.reads 8 b i)) ≡ take 32 (drop i b)
@@ -200,15 +200,15 @@ module _ (b : List ℕ) (h : isBlock b ≡ true) (t : are_bytes b ≡ true) wher
       let f : d.reads 8 (drop i b) 0 ≡ d.reads 8 b i = table-shift k 8 i 0 b ∙ ap (d.reads 8 b) z in
       ap (λ (l : List E). bytes_of (d.words l)) (sym f) ∙ ap bytes_of (table-words k 8 (drop i b)) ∙ words-at 16 i g
 
-  regions-at : bytes_of (regionWords (regionsFrom 8 b 18)) ≡ take 32 (drop 18 b)
-  regions-at = table_at regionTable 18 (omega arith)
+  regions-at : bytes_of (region_words (regions_from 8 b 18)) ≡ take 32 (drop 18 b)
+  regions-at = table_at region_table 18 (omega arith)
 
-  devices-at : bytes_of (deviceWords (devicesFrom 8 b 51)) ≡ take 32 (drop 51 b)
-  devices-at = table_at deviceTable 51 (omega arith)
+  devices-at : bytes_of (device_words (devices_from 8 b 51)) ≡ take 32 (drop 51 b)
+  devices-at = table_at device_table 51 (omega arith)
 
   last-at : bytes_of (word_at b 83 ∷ word_at b 85 ∷ []) ≡ take 4 (drop 83 b)
   last-at =
-      let f : wordsFrom 2 (drop 83 b) ≡ word_at b 83 ∷ word_at b 85 ∷ [] = simp (words-pair 0 (drop 83 b), words-none, get_or-drop) in
+      let f : words_from 2 (drop 83 b) ≡ word_at b 83 ∷ word_at b 85 ∷ [] = simp (words-pair 0 (drop 83 b), words-none, get_or-drop) in
       ap bytes_of (sym f) ∙ words-at 2 83 (omega arith)
 
   -- 16 to 49, and 50 to 82

@@ -6,13 +6,13 @@ use lib.ListN.{length, get_or, take, drop}
 use lib.Seq.{length-take-le, take-suc, sets}
 use native.Mathlib.Nat.{mod-add-div}
 use native.Mathlib.Omega.{arith}
-use Rattle.wordbytes.specs.Words.{word_bytes, bytes_of, word_at, wordsFrom}
+use Rattle.wordbytes.specs.Words.{word_bytes, bytes_of, word_at, words_from}
 use Rattle.wordbytes.proofs.Laws.{length-bytes, bytes-none, bytes_pair, bytes-append}
 use Rattle.wordbytes.proofs.Parts.{word-drop, words-none, words-pair, sets-next}
 use Rattle.map.specs.Entries.{region, device}
 use Rattle.map.specs.declared.Region.{Region}
 use Rattle.map.specs.declared.Device.{Device}
-use Rattle.block.specs.Block.{regionWords, deviceWords, regionsFrom, devicesFrom}
+use Rattle.block.specs.Block.{region_words, device_words, regions_from, devices_from}
 
 -- ---- what both tables are
 
@@ -33,12 +33,12 @@ pub record Table {E : Type 0} (d : Entries E) : Type 0 where
   pub no_reads : (b : List ℕ) (i : ℕ) → d.reads 0 b i ≡ []
   pub more-reads : (n : ℕ) (b : List ℕ) (i : ℕ) → d.reads (suc n) b i ≡ d.make (word_at b i) (word_at b (i + 2)) ∷ d.reads n b (i + 4)
 
-abbrev pub regionEntries : Entries Region
-regionEntries = record { make = region; one = λ (r : Region). r.start; two = λ (r : Region). r.len; words = regionWords; reads = regionsFrom }
+abbrev pub region_entries : Entries Region
+region_entries = record { make = region; one = λ (r : Region). r.start; two = λ (r : Region). r.len; words = region_words; reads = regions_from }
 
-pub regionTable : Table regionEntries
-unfolding regionWords regionsFrom
-regionTable = record {
+pub region_table : Table region_entries
+unfolding region_words regions_from
+region_table = record {
   made = λ (r : Region). refl;
   made_one = λ (a b : ℕ). refl;
   made-two = λ (a b : ℕ). refl;
@@ -48,12 +48,12 @@ regionTable = record {
   more-reads = λ (n : ℕ) (b : List ℕ) (i : ℕ). refl;
 }
 
-abbrev pub deviceEntries : Entries Device
-deviceEntries = record { make = device; one = λ (d : Device). d.start; two = λ (d : Device). d.end; words = deviceWords; reads = devicesFrom }
+abbrev pub device_entries : Entries Device
+device_entries = record { make = device; one = λ (d : Device). d.start; two = λ (d : Device). d.end; words = device_words; reads = devices_from }
 
-pub deviceTable : Table deviceEntries
-unfolding deviceWords devicesFrom
-deviceTable = record {
+pub device_table : Table device_entries
+unfolding device_words devices_from
+device_table = record {
   made = λ (d : Device). refl;
   made_one = λ (a b : ℕ). refl;
   made-two = λ (a b : ℕ). refl;
@@ -126,11 +126,11 @@ module _ {E : Type 0} {d : Entries E} (t : Table d) where
       ∙ rw (mod-add-div (d.one x) 256, mod-add-div (d.two x) 256, t.made x, e)
 
   -- and as the words that stand there
-  pub table-words : (n : ℕ) (b : List ℕ) → d.words (d.reads n b 0) ≡ wordsFrom (2 * n) b
+  pub table-words : (n : ℕ) (b : List ℕ) → d.words (d.reads n b 0) ≡ words_from (2 * n) b
   table-words zero b = rw (t.no_reads b 0, t.no_words) (sym (words-none b))
   table-words (suc n) b =
       let m : 2 * suc n ≡ suc (suc (2 * n)) = omega arith in
       let x = d.make (word_at b 0) (word_at b 2) in
-      let e : d.words (d.reads n b 4) ≡ wordsFrom (2 * n) (drop 4 b) = ap d.words (sym (table-shift n 4 0 b)) ∙ table-words n (drop 4 b) in
+      let e : d.words (d.reads n b 4) ≡ words_from (2 * n) (drop 4 b) = ap d.words (sym (table-shift n 4 0 b)) ∙ table-words n (drop 4 b) in
       ap d.words (t.more-reads n b 0) ∙ t.more-words x (d.reads n b 4)
       ∙ rw (t.made_one (word_at b 0) (word_at b 2), t.made-two (word_at b 0) (word_at b 2), e, m) (sym (words-pair (2 * n) b))

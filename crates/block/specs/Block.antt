@@ -12,7 +12,7 @@
 use Rattle.std.specs.Prelude.{ℕ, zero, suc, ◌+◌, Bool, ◌&&◌, List, [], ◌∷◌, ◌++◌, eqb, leb, length, get_or}
 use Rattle.base.specs.Choice.{cond}
 use Rattle.base.specs.Words.{low_of}
-use Rattle.wordbytes.specs.Words.{bytes_of, word_at, wordsFrom}
+use Rattle.wordbytes.specs.Words.{bytes_of, word_at, words_from}
 use Rattle.map.specs.Entries.{region, device}
 use Rattle.map.specs.declared.Region.{Region}
 use Rattle.map.specs.declared.Device.{Device}
@@ -23,13 +23,13 @@ use Rattle.journal.specs.declared.State.{State}
 
 -- ---- from a state
 
-unfoldable pub regionWords : List Region → List ℕ
-regionWords [] = []
-regionWords (r ∷ rest) = r.start ∷ r.len ∷ regionWords rest
+unfoldable pub region_words : List Region → List ℕ
+region_words [] = []
+region_words (r ∷ rest) = r.start ∷ r.len ∷ region_words rest
 
-unfoldable pub deviceWords : List Device → List ℕ
-deviceWords [] = []
-deviceWords (d ∷ rest) = d.start ∷ d.end ∷ deviceWords rest
+unfoldable pub device_words : List Device → List ℕ
+device_words [] = []
+device_words (d ∷ rest) = d.start ∷ d.end ∷ device_words rest
 
 abbrev pub flag : Bool → ℕ
 flag debug = cond debug 1 0
@@ -39,33 +39,33 @@ unfoldable pub packed : State → List ℕ
 packed s =
     let m = s.machine in
     bytes_of m.registers.value
-    ++ (flag m.mode.debug ∷ low_of m.map.regions ∷ bytes_of (regionWords m.map.region))
-    ++ (low_of m.map.devices ∷ bytes_of (deviceWords m.map.device))
+    ++ (flag m.mode.debug ∷ low_of m.map.regions ∷ bytes_of (region_words m.map.region))
+    ++ (low_of m.map.devices ∷ bytes_of (device_words m.map.device))
     ++ bytes_of (s.next ∷ s.held ∷ [])
 
 -- ---- and back
 
 -- n entries of two words each, from byte i on
-unfoldable pub regionsFrom : ℕ → List ℕ → ℕ → List Region
-regionsFrom zero b i = []
-regionsFrom (suc n) b i = region (word_at b i) (word_at b (i + 2)) ∷ regionsFrom n b (i + 4)
+unfoldable pub regions_from : ℕ → List ℕ → ℕ → List Region
+regions_from zero b i = []
+regions_from (suc n) b i = region (word_at b i) (word_at b (i + 2)) ∷ regions_from n b (i + 4)
 
-unfoldable pub devicesFrom : ℕ → List ℕ → ℕ → List Device
-devicesFrom zero b i = []
-devicesFrom (suc n) b i = device (word_at b i) (word_at b (i + 2)) ∷ devicesFrom n b (i + 4)
+unfoldable pub devices_from : ℕ → List ℕ → ℕ → List Device
+devices_from zero b i = []
+devices_from (suc n) b i = device (word_at b i) (word_at b (i + 2)) ∷ devices_from n b (i + 4)
 
-abbrev pub mapIn : List ℕ → Map
-mapIn b =
-    record { regions = get_or b 17 0; region = regionsFrom 8 b 18; devices = get_or b 50 0; device = devicesFrom 8 b 51 }
+abbrev pub map_in : List ℕ → Map
+map_in b =
+    record { regions = get_or b 17 0; region = regions_from 8 b 18; devices = get_or b 50 0; device = devices_from 8 b 51 }
 
-abbrev pub machineIn : List ℕ → Machine
-machineIn b =
-    record { registers = record { value = wordsFrom 8 b }; mode = record { debug = eqb (get_or b 16 0) 1 }; map = mapIn b }
+abbrev pub machine_in : List ℕ → Machine
+machine_in b =
+    record { registers = record { value = words_from 8 b }; mode = record { debug = eqb (get_or b 16 0) 1 }; map = map_in b }
 
 unfoldable pub unpacked : List ℕ → State
-unpacked b = state (machineIn b) (word_at b 83) (word_at b 85)
+unpacked b = state (machine_in b) (word_at b 83) (word_at b 85)
 
 -- ---- which bytes are a block: any counts, entries, next and held, for a state may be invalid. All else is refused with 31
 
-unfoldable pub isBlock : List ℕ → Bool
-isBlock b = eqb (length b) 87 && leb (get_or b 16 0) 1
+unfoldable pub is_block : List ℕ → Bool
+is_block b = eqb (length b) 87 && leb (get_or b 16 0) 1

@@ -2,7 +2,7 @@
 ghost use Rattle.std.specs.Prelude.{◌≡◌, [], ◌∷◌, ◌+◌, ◌≤◌, length};
 ghost use Rattle.std.proofs.lemmas.List.Edits.{sets};
 ghost use Rattle.wordbytes.specs.Words.{bytes_of};
-ghost use Rattle.block.specs.Block.{regionWords, deviceWords, flag, packed};
+ghost use Rattle.block.specs.Block.{region_words, device_words, flag, packed};
 
 use journal::State;
 use map::{Device, Region};
@@ -20,7 +20,7 @@ fn put_two(block: &mut [u8], i: usize, a: u16, b: u16)
 // Writes eight regions over 32 bytes.
 fn put_regions(block: &mut [u8], i: usize, table: [Region; 8])
     requires { i + 32 ≤ length block.old }
-    ensures { block.new ≡ sets block.old i (bytes_of (regionWords table)) }
+    ensures { block.new ≡ sets block.old i (bytes_of (region_words table)) }
 {
     let mut n: usize = 0;
     while n < 8 {
@@ -33,7 +33,7 @@ fn put_regions(block: &mut [u8], i: usize, table: [Region; 8])
 // Writes eight devices over 32 bytes.
 fn put_devices(block: &mut [u8], i: usize, table: [Device; 8])
     requires { i + 32 ≤ length block.old }
-    ensures { block.new ≡ sets block.old i (bytes_of (deviceWords table)) }
+    ensures { block.new ≡ sets block.old i (bytes_of (device_words table)) }
 {
     let mut n: usize = 0;
     while n < 8 {

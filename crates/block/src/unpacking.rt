@@ -1,8 +1,8 @@
 // From the block.
 ghost use Rattle.std.specs.Prelude.{◌≡◌, ◌+◌, ◌≤◌, length};
 ghost use Rattle.map.specs.Entries.{region, device};
-ghost use Rattle.wordbytes.specs.Words.{word_at, wordsFrom};
-ghost use Rattle.block.specs.Block.{isBlock, regionsFrom, devicesFrom, mapIn, machineIn, unpacked};
+ghost use Rattle.wordbytes.specs.Words.{word_at, words_from};
+ghost use Rattle.block.specs.Block.{is_block, regions_from, devices_from, map_in, machine_in, unpacked};
 
 use journal::State;
 use machine::{Machine, Mode, Registers};
@@ -11,7 +11,7 @@ use wordbytes::word_at;
 
 // 87 bytes, and debug is 0 or 1.
 pub fn is_block(block: &[u8]) -> bool
-    ensures { result ≡ isBlock block.now }
+    ensures { result ≡ is_block block.now }
 {
     if block.len() != 87 {
         return false;
@@ -41,7 +41,7 @@ fn device_at(block: &[u8], i: usize) -> Device
 
 fn regions_in(block: &[u8]) -> [Region; 8]
     requires { length block.now ≡ 87 }
-    ensures { result ≡ regionsFrom 8 block.now 18 }
+    ensures { result ≡ regions_from 8 block.now 18 }
 {
     [
         region_at(block, 18),
@@ -57,7 +57,7 @@ fn regions_in(block: &[u8]) -> [Region; 8]
 
 fn devices_in(block: &[u8]) -> [Device; 8]
     requires { length block.now ≡ 87 }
-    ensures { result ≡ devicesFrom 8 block.now 51 }
+    ensures { result ≡ devices_from 8 block.now 51 }
 {
     [
         device_at(block, 51),
@@ -80,7 +80,7 @@ fn wide(b: u8) -> u16
 
 fn map_in(block: &[u8]) -> Map
     requires { length block.now ≡ 87 }
-    ensures { result ≡ mapIn block.now }
+    ensures { result ≡ map_in block.now }
 {
     let regions = wide(block[17]);
     let region = regions_in(block);
@@ -96,7 +96,7 @@ fn map_in(block: &[u8]) -> Map
 
 fn registers_in(block: &[u8]) -> Registers
     requires { length block.now ≡ 87 }
-    ensures { result.value ≡ wordsFrom 8 block.now }
+    ensures { result.value ≡ words_from 8 block.now }
 {
     Registers {
         value: [
@@ -114,7 +114,7 @@ fn registers_in(block: &[u8]) -> Registers
 
 fn machine_in(block: &[u8]) -> Machine
     requires { length block.now ≡ 87 }
-    ensures { result ≡ machineIn block.now }
+    ensures { result ≡ machine_in block.now }
 {
     let registers = registers_in(block);
     let mode = Mode {

@@ -22,7 +22,7 @@ use Rattle.machine.proofs.StateLaws.{valid-tables, set-order, set-machine}
 use Rattle.journal.specs.States.{state, valid}
 use Rattle.journal.specs.declared.State.{State}
 use Rattle.journal.proofs.StateLaws.{valid-machine}
-use Rattle.host.specs.Host.{withMap, settled, setNumber, setState, protectNumber, protectState, registerNumber, registerState, loadNumber, begins, loadMap, loadBytes, readNumber, readOut, readOutBuffer, past}
+use Rattle.host.specs.Host.{with_map, settled, set_number, set_state, protect_number, protect_state, register_number, register_state, load_number, begins, load_map, load_bytes, read_number, read_out, read_out_buffer, past}
 
 -- of what a refusal leaves, nothing is looked at
 settled-by : {A : Type 0} (s : State) (n : ℕ) (f : A → Machine) (x y : A) → settled s n (f (cond (eqb n 0) x y)) ≡ settled s n (f x)
@@ -42,78 +42,78 @@ module _ (s : State) (dev journal : List ℕ) (v : valid s dev journal ≡ true)
 
   -- ---- set-register
 
-  pub set-number : (number : ℕ) → machine.setNumber s.machine dev number ≡ setNumber s dev journal number
-  unfolding setNumber
+  pub set-number : (number : ℕ) → machine.set_number s.machine dev number ≡ set_number s dev journal number
+  unfolding set_number
   set-number number = set-order s.machine dev number (valid-machine s dev journal v) ∙ rw v
 
   pub set-state : (number value : ℕ)
-      → settled s (machine.setNumber s.machine dev number) (machine.setMachine s.machine dev number value)
-      ≡ setState s dev journal number value
-  unfolding setState
+      → settled s (machine.set_number s.machine dev number) (machine.set_machine s.machine dev number value)
+      ≡ set_state s dev journal number value
+  unfolding set_state
   set-state number value =
       rw (set-machine s.machine dev number value, set-number number)
-      (settled-by s (setNumber s dev journal number) (λ (x : Machine). x) (machine.withRegister s.machine number value) s.machine)
+      (settled-by s (set_number s dev journal number) (λ (x : Machine). x) (machine.with_register s.machine number value) s.machine)
 
   -- ---- protect
 
   module _ (start len : ℕ) where
-    pub protect-number : map.protectNumber m dev start len ≡ protectNumber s dev journal start len
-    unfolding protectNumber
+    pub protect-number : map.protect_number m dev start len ≡ protect_number s dev journal start len
+    unfolding protect_number
     protect-number = orders.protect-order m dev start len tables-valid ∙ rw v
 
-    pub protect-state : settled s (map.protectNumber m dev start len) (withMap s.machine (map.protectMap m dev start len))
-        ≡ protectState s dev journal start len
-    unfolding protectState
+    pub protect-state : settled s (map.protect_number m dev start len) (with_map s.machine (map.protect_map m dev start len))
+        ≡ protect_state s dev journal start len
+    unfolding protect_state
     protect-state =
         rw (orders.protect-map m dev start len, protect-number)
-        (settled-by s (protectNumber s dev journal start len) (withMap s.machine) (map.withRegion m (map.region start len)) m)
+        (settled-by s (protect_number s dev journal start len) (with_map s.machine) (map.with_region m (map.region start len)) m)
 
   -- ---- device
 
   module _ (start size : ℕ) where
-    pub register-number : map.registerNumber m dev start size ≡ registerNumber s dev journal start size
-    unfolding registerNumber
+    pub register-number : map.register_number m dev start size ≡ register_number s dev journal start size
+    unfolding register_number
     register-number = orders.register-order m dev start size tables-valid ∙ rw v
 
-    pub register-state : settled s (map.registerNumber m dev start size) (withMap s.machine (map.registerMap m dev start size))
-        ≡ registerState s dev journal start size
-    unfolding registerState
+    pub register-state : settled s (map.register_number m dev start size) (with_map s.machine (map.register_map m dev start size))
+        ≡ register_state s dev journal start size
+    unfolding register_state
     register-state =
         rw (orders.register-map m dev start size, register-number)
-        (settled-by s (registerNumber s dev journal start size) (withMap s.machine) (map.withDevice m (map.device start (start + size))) m)
+        (settled-by s (register_number s dev journal start size) (with_map s.machine) (map.with_device m (map.device start (start + size))) m)
 
 module _ (s : State) (b : Lent) (journal : List ℕ) (v : valid s b.dev journal ≡ true) where
   -- ---- load
 
   module _ (program : List ℕ) where
-    pub load-number : memory.loadNumber s.machine.map b program ≡ loadNumber s b journal program
-    unfolding loadNumber
+    pub load-number : memory.load_number s.machine.map b program ≡ load_number s b journal program
+    unfolding load_number
     load-number = loads.load-order s.machine.map b program (tables-valid s b.dev journal v) ∙ rw v
 
-    pub load-map : memory.loadMap s.machine.map b program ≡ loadMap s b journal program
-    unfolding loadMap
+    pub load-map : memory.load_map s.machine.map b program ≡ load_map s b journal program
+    unfolding load_map
     load-map = loads.load-map s.machine.map b program ∙ rw load-number
 
-    pub load-bytes : memory.loadBytes s.machine.map b program ≡ loadBytes s b journal program
-    unfolding loadBytes begins
+    pub load-bytes : memory.load_bytes s.machine.map b program ≡ load_bytes s b journal program
+    unfolding load_bytes begins
     load-bytes = loads.load-bytes s.machine.map b program (tables-valid s b.dev journal v) ∙ rw v
 
     -- it begins where its answer is past 16 and 14
-    pub begins-past : begins s b journal program ≡ past (memory.loadNumber s.machine.map b program)
+    pub begins-past : begins s b journal program ≡ past (memory.load_number s.machine.map b program)
     unfolding begins past
     begins-past = rw v (begins-by-number s.machine.map b program (tables-valid s b.dev journal v))
 
   -- ---- reading memory out
 
   module _ (start size : ℕ) where
-    read_number : (room : ℕ) → blocks.readNumber s.machine.map b start size room ≡ readNumber s b journal start size room
-    unfolding readNumber
-    read_number room = loads.read-order s.machine.map b start size room (tables-valid s b.dev journal v) ∙ rw v
+    read-number : (room : ℕ) → blocks.read_number s.machine.map b start size room ≡ read_number s b journal start size room
+    unfolding read_number
+    read-number room = loads.read-order s.machine.map b start size room (tables-valid s b.dev journal v) ∙ rw v
 
-    pub read_out : (room : ℕ) → blocks.readOut s.machine.map b start size room ≡ readOut s b journal start size room
-    unfolding readOut
-    read_out room = loads.read-counts s.machine.map b start size room ∙ rw (read_number room)
+    pub read-out : (room : ℕ) → blocks.read_out s.machine.map b start size room ≡ read_out s b journal start size room
+    unfolding read_out
+    read-out room = loads.read-counts s.machine.map b start size room ∙ rw (read-number room)
 
-    pub read-buffer : (buffer : List ℕ) → blocks.readOutBuffer s.machine.map b start size buffer ≡ readOutBuffer s b journal start size buffer
-    unfolding readOutBuffer
-    read-buffer buffer = loads.read-copies s.machine.map b start size buffer ∙ rw (read_number (length buffer))
+    pub read-buffer : (buffer : List ℕ) → blocks.read_out_buffer s.machine.map b start size buffer ≡ read_out_buffer s b journal start size buffer
+    unfolding read_out_buffer
+    read-buffer buffer = loads.read-copies s.machine.map b start size buffer ∙ rw (read-number (length buffer))

@@ -23,7 +23,7 @@ use Rattle.machine.proofs.StateLaws.{valid-tables, register-tables}
 use Rattle.journal.specs.States.{state, valid}
 use Rattle.journal.specs.declared.State.{State}
 use Rattle.journal.proofs.StateLaws.{valid-emptied}
-use Rattle.host.specs.Host.{withMap, settled, setNumber, setState, protectNumber, protectState, registerNumber, registerState, loadNumber, begins, loadMap, loadState, loadBytes}
+use Rattle.host.specs.Host.{with_map, settled, set_number, set_state, protect_number, protect_state, register_number, register_state, load_number, begins, load_map, load_state, load_bytes}
 use Rattle.host.proofs.Below.{tables-valid, load-map, load-bytes}
 
 -- ---- a refusal changes nothing
@@ -33,42 +33,42 @@ unfolding settled
 settled-kept s n m h = rw (ne_eqb n 0 h)
 
 module _ (s : State) (dev journal : List ℕ) where
-  pub set-refused : (number value : ℕ) → (setNumber s dev journal number ≡ 0 → ⊥) → setState s dev journal number value ≡ s
-  unfolding setState
-  set-refused number value = settled-kept s (setNumber s dev journal number) (machine.withRegister s.machine number value)
+  pub set-refused : (number value : ℕ) → (set_number s dev journal number ≡ 0 → ⊥) → set_state s dev journal number value ≡ s
+  unfolding set_state
+  set-refused number value = settled-kept s (set_number s dev journal number) (machine.with_register s.machine number value)
 
-  pub protect-refused : (start len : ℕ) → (protectNumber s dev journal start len ≡ 0 → ⊥) → protectState s dev journal start len ≡ s
-  unfolding protectState
+  pub protect-refused : (start len : ℕ) → (protect_number s dev journal start len ≡ 0 → ⊥) → protect_state s dev journal start len ≡ s
+  unfolding protect_state
   protect-refused start len =
-      settled-kept s (protectNumber s dev journal start len) (withMap s.machine (map.withRegion s.machine.map (map.region start len)))
+      settled-kept s (protect_number s dev journal start len) (with_map s.machine (map.with_region s.machine.map (map.region start len)))
 
-  pub register-refused : (start size : ℕ) → (registerNumber s dev journal start size ≡ 0 → ⊥)
-      → registerState s dev journal start size ≡ s
-  unfolding registerState
+  pub register-refused : (start size : ℕ) → (register_number s dev journal start size ≡ 0 → ⊥)
+      → register_state s dev journal start size ≡ s
+  unfolding register_state
   register-refused start size =
-      settled-kept s (registerNumber s dev journal start size)
-      (withMap s.machine (map.withDevice s.machine.map (map.device start (start + size))))
+      settled-kept s (register_number s dev journal start size)
+      (with_map s.machine (map.with_device s.machine.map (map.device start (start + size))))
 
 -- ---- but what a load keeps
 
 module _ (s : State) (b : Lent) (journal program : List ℕ) where
   -- 1, 16 and 14 keep nothing
-  pub load-refused : begins s b journal program ≡ false → (loadState s b journal program ≡ s) × (loadBytes s b journal program ≡ b)
-  unfolding loadState loadBytes
+  pub load-refused : begins s b journal program ≡ false → (load_state s b journal program ≡ s) × (load_bytes s b journal program ≡ b)
+  unfolding load_state load_bytes
   load-refused h = (rw h, rw h)
 
   -- any other load has the journal emptied, 15 and 13 too
   pub load-empties : begins s b journal program ≡ true
-      → ((loadState s b journal program).next ≡ 0) × ((loadState s b journal program).held ≡ 0)
-  unfolding loadState
+      → ((load_state s b journal program).next ≡ 0) × ((load_state s b journal program).held ≡ 0)
+  unfolding load_state
   load-empties h =
-      let m = withMap s.machine (loadMap s b journal program) in
-      let e : loadState s b journal program ≡ state m 0 0 = rw h in
+      let m = with_map s.machine (load_map s b journal program) in
+      let e : load_state s b journal program ≡ state m 0 0 = rw h in
       (ap (λ (x : State). x.next) e, ap (λ (x : State). x.held) e)
 
   -- a load changes no length
-  pub load_same : SameLengths (loadBytes s b journal program) b
-  unfolding loadBytes
+  pub load_same : SameLengths (load_bytes s b journal program) b
+  unfolding load_bytes
   load_same = go (begins s b journal program)
     where
       go : (t : Bool) → SameLengths (cond t (memory.store_words s.machine.map b 0 program).bytes b) b
@@ -86,32 +86,32 @@ module _ (s : State) (dev journal : List ℕ) (e : Eight s.machine.map) where
       go true = h
       go false = e
 
-  pub set-eight : (number value : ℕ) → Eight (setState s dev journal number value).machine.map
-  unfolding setState
+  pub set-eight : (number value : ℕ) → Eight (set_state s dev journal number value).machine.map
+  unfolding set_state
   set-eight number value =
-      settled-eight (setNumber s dev journal number) (machine.withRegister s.machine number value)
+      settled-eight (set_number s dev journal number) (machine.with_register s.machine number value)
       (rw (register-tables s.machine number value) e)
 
-  pub protect-eight : (start len : ℕ) → Eight (protectState s dev journal start len).machine.map
-  unfolding protectState
+  pub protect-eight : (start len : ℕ) → Eight (protect_state s dev journal start len).machine.map
+  unfolding protect_state
   protect-eight start len =
-      settled-eight (protectNumber s dev journal start len) (withMap s.machine (map.withRegion s.machine.map (map.region start len)))
+      settled-eight (protect_number s dev journal start len) (with_map s.machine (map.with_region s.machine.map (map.region start len)))
       (eight-region s.machine.map e (map.region start len))
 
-  pub register-eight : (start size : ℕ) → Eight (registerState s dev journal start size).machine.map
-  unfolding registerState
+  pub register-eight : (start size : ℕ) → Eight (register_state s dev journal start size).machine.map
+  unfolding register_state
   register-eight start size =
       let d = map.device start (start + size) in
-      settled-eight (registerNumber s dev journal start size) (withMap s.machine (map.withDevice s.machine.map d))
+      settled-eight (register_number s dev journal start size) (with_map s.machine (map.with_device s.machine.map d))
       (eight-device s.machine.map e d)
 
 pub load-eight : (s : State) (b : Lent) (journal program : List ℕ) → Eight s.machine.map
-    → Eight (loadState s b journal program).machine.map
-unfolding loadState loadMap
-load-eight s b journal program e = go (begins s b journal program) (eqb (loadNumber s b journal program) 0)
+    → Eight (load_state s b journal program).machine.map
+unfolding load_state load_map
+load-eight s b journal program e = go (begins s b journal program) (eqb (load_number s b journal program) 0)
   where
     m : Bool → Machine
-    m u = withMap s.machine (cond u (map.withRegion s.machine.map (map.region 0 (length program))) s.machine.map)
+    m u = with_map s.machine (cond u (map.with_region s.machine.map (map.region 0 (length program))) s.machine.map)
 
     go : (t u : Bool) → Eight (cond t (state (m u) 0 0) s).machine.map
     go true true = eight-region s.machine.map e (map.region 0 (length program))
@@ -129,38 +129,38 @@ module _ (s : State) (dev journal : List ℕ) (e : Eight s.machine.map) (v : val
       go true k = valid-emptied m dev journal ∙ valid-tables m dev ∙ k refl
       go false k = v
 
-  pub set-valid : (number value : ℕ) → valid (setState s dev journal number value) dev journal ≡ true
-  unfolding setState
+  pub set-valid : (number value : ℕ) → valid (set_state s dev journal number value) dev journal ≡ true
+  unfolding set_state
   set-valid number value =
-      settled-valid (setNumber s dev journal number) (machine.withRegister s.machine number value)
+      settled-valid (set_number s dev journal number) (machine.with_register s.machine number value)
       (λ a. rw (register-tables s.machine number value) (tables-valid s dev journal v))
 
-  pub protect-valid : (start len : ℕ) → valid (protectState s dev journal start len) dev journal ≡ true
-  unfolding protectState protectNumber
+  pub protect-valid : (start len : ℕ) → valid (protect_state s dev journal start len) dev journal ≡ true
+  unfolding protect_state protect_number
   protect-valid start len =
       let r = map.region start len in
-      settled-valid (protectNumber s dev journal start len) (withMap s.machine (map.withRegion s.machine.map r))
+      settled-valid (protect_number s dev journal start len) (with_map s.machine (map.with_region s.machine.map r))
       (λ a. region-kept s.machine.map e dev (tables-valid s dev journal v) r (rw (region-order s.machine.map r) (rw v at a)))
 
-  pub register-valid : (start size : ℕ) → valid (registerState s dev journal start size) dev journal ≡ true
-  unfolding registerState registerNumber
+  pub register-valid : (start size : ℕ) → valid (register_state s dev journal start size) dev journal ≡ true
+  unfolding register_state register_number
   register-valid start size =
       let d = map.device start (start + size) in
-      settled-valid (registerNumber s dev journal start size) (withMap s.machine (map.withDevice s.machine.map d))
+      settled-valid (register_number s dev journal start size) (with_map s.machine (map.with_device s.machine.map d))
       (λ a. device-kept s.machine.map e dev (tables-valid s dev journal v) d (omega arith) (rw (device-order s.machine.map (length dev) d) (rw v at a)))
 
 module _ (s : State) (b : Lent) (journal program : List ℕ) (e : Eight s.machine.map) (v : valid s b.dev journal ≡ true) where
-  pub load-valid : valid (loadState s b journal program) (loadBytes s b journal program).dev journal ≡ true
-  unfolding loadState
+  pub load-valid : valid (load_state s b journal program) (load_bytes s b journal program).dev journal ≡ true
+  unfolding load_state
   load-valid = go (begins s b journal program) refl
     where
       after : Machine
-      after = withMap s.machine (loadMap s b journal program)
+      after = with_map s.machine (load_map s b journal program)
 
       go : (t : Bool) → begins s b journal program ≡ t
-          → valid (cond t (state after 0 0) s) (loadBytes s b journal program).dev journal ≡ true
+          → valid (cond t (state after 0 0) s) (load_bytes s b journal program).dev journal ≡ true
       go true h =
-          let d = (loadBytes s b journal program).dev in
+          let d = (load_bytes s b journal program).dev in
           valid-emptied after d journal ∙ valid-tables after d
           ∙ rw (← load-map s b journal v program, ← load-bytes s b journal v program)
           (load_kept s.machine.map b program e (tables-valid s b.dev journal v))

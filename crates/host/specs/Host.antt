@@ -15,8 +15,8 @@ use Rattle.journal.specs.States.{state, valid}
 use Rattle.journal.specs.declared.State.{State}
 
 -- the machine with other tables
-abbrev pub withMap : Machine → Map → Machine
-withMap m t = record { registers = m.registers; mode = m.mode; map = t }
+abbrev pub with_map : Machine → Map → Machine
+with_map m t = record { registers = m.registers; mode = m.mode; map = t }
 
 -- a new machine with an empty journal, where the answer's number is 0
 unfoldable pub settled : State → ℕ → Machine → State
@@ -24,69 +24,69 @@ settled s n m = cond (eqb n 0) (state m 0 0) s
 
 -- ---- set-register
 
-unfoldable pub setNumber : State → List ℕ → List ℕ → ℕ → ℕ
-setNumber s dev journal number = first_of (1 when not (valid s dev journal) ∷ machine.setOrder number)
+unfoldable pub set_number : State → List ℕ → List ℕ → ℕ → ℕ
+set_number s dev journal number = first_of (1 when not (valid s dev journal) ∷ machine.set_order number)
 
-unfoldable pub setState : State → List ℕ → List ℕ → ℕ → ℕ → State
-setState s dev journal number value =
-    settled s (setNumber s dev journal number) (machine.withRegister s.machine number value)
+unfoldable pub set_state : State → List ℕ → List ℕ → ℕ → ℕ → State
+set_state s dev journal number value =
+    settled s (set_number s dev journal number) (machine.with_register s.machine number value)
 
 -- ---- protect
 
-unfoldable pub protectNumber : State → List ℕ → List ℕ → ℕ → ℕ → ℕ
-protectNumber s dev journal start len =
-    first_of (1 when not (valid s dev journal) ∷ map.protectOrder s.machine.map (map.region start len))
+unfoldable pub protect_number : State → List ℕ → List ℕ → ℕ → ℕ → ℕ
+protect_number s dev journal start len =
+    first_of (1 when not (valid s dev journal) ∷ map.protect_order s.machine.map (map.region start len))
 
-unfoldable pub protectState : State → List ℕ → List ℕ → ℕ → ℕ → State
-protectState s dev journal start len =
-    settled s (protectNumber s dev journal start len) (withMap s.machine (map.withRegion s.machine.map (map.region start len)))
+unfoldable pub protect_state : State → List ℕ → List ℕ → ℕ → ℕ → State
+protect_state s dev journal start len =
+    settled s (protect_number s dev journal start len) (with_map s.machine (map.with_region s.machine.map (map.region start len)))
 
 -- ---- device
 
-unfoldable pub registerNumber : State → List ℕ → List ℕ → ℕ → ℕ → ℕ
-registerNumber s dev journal start size =
-    first_of (1 when not (valid s dev journal) ∷ map.deviceOrder s.machine.map (length dev) (map.device start (start + size)))
+unfoldable pub register_number : State → List ℕ → List ℕ → ℕ → ℕ → ℕ
+register_number s dev journal start size =
+    first_of (1 when not (valid s dev journal) ∷ map.device_order s.machine.map (length dev) (map.device start (start + size)))
 
-unfoldable pub registerState : State → List ℕ → List ℕ → ℕ → ℕ → State
-registerState s dev journal start size =
-    settled s (registerNumber s dev journal start size)
-    (withMap s.machine (map.withDevice s.machine.map (map.device start (start + size))))
+unfoldable pub register_state : State → List ℕ → List ℕ → ℕ → ℕ → State
+register_state s dev journal start size =
+    settled s (register_number s dev journal start size)
+    (with_map s.machine (map.with_device s.machine.map (map.device start (start + size))))
 
 -- ---- load
 
-unfoldable pub loadNumber : State → Lent → List ℕ → List ℕ → ℕ
-loadNumber s b journal program =
-    first_of (1 when not (valid s b.dev journal) ∷ memory.loadOrder s.machine.map b program)
+unfoldable pub load_number : State → Lent → List ℕ → List ℕ → ℕ
+load_number s b journal program =
+    first_of (1 when not (valid s b.dev journal) ∷ memory.load_order s.machine.map b program)
 
 -- it comes as far as storing the first word: none of 1, 16, 14
 unfoldable pub begins : State → Lent → List ℕ → List ℕ → Bool
 begins s b journal program = valid s b.dev journal && memory.begins s.machine.map program
 
 -- the tables: a refusal leaves them
-unfoldable pub loadMap : State → Lent → List ℕ → List ℕ → Map
-loadMap s b journal program =
-    cond (eqb (loadNumber s b journal program) 0) (map.withRegion s.machine.map (map.region 0 (length program))) s.machine.map
+unfoldable pub load_map : State → Lent → List ℕ → List ℕ → Map
+load_map s b journal program =
+    cond (eqb (load_number s b journal program) 0) (map.with_region s.machine.map (map.region 0 (length program))) s.machine.map
 
 -- 15 and 13 keep what was stored and the emptied journal
-unfoldable pub loadState : State → Lent → List ℕ → List ℕ → State
-loadState s b journal program =
-    cond (begins s b journal program) (state (withMap s.machine (loadMap s b journal program)) 0 0) s
+unfoldable pub load_state : State → Lent → List ℕ → List ℕ → State
+load_state s b journal program =
+    cond (begins s b journal program) (state (with_map s.machine (load_map s b journal program)) 0 0) s
 
-unfoldable pub loadBytes : State → Lent → List ℕ → List ℕ → Lent
-loadBytes s b journal program = cond (begins s b journal program) (memory.store_words s.machine.map b 0 program).bytes b
+unfoldable pub load_bytes : State → Lent → List ℕ → List ℕ → Lent
+load_bytes s b journal program = cond (begins s b journal program) (memory.store_words s.machine.map b 0 program).bytes b
 
 -- ---- reading memory out, with room bytes in the buffer
 
-unfoldable pub readNumber : State → Lent → List ℕ → ℕ → ℕ → ℕ → ℕ
-readNumber s b journal start size room =
-    first_of (1 when not (valid s b.dev journal) ∷ blocks.readOrder start size room)
+unfoldable pub read_number : State → Lent → List ℕ → ℕ → ℕ → ℕ → ℕ
+read_number s b journal start size room =
+    first_of (1 when not (valid s b.dev journal) ∷ blocks.read_order start size room)
 
-unfoldable pub readOut : State → Lent → List ℕ → ℕ → ℕ → ℕ → blocks.Counted
-readOut s b journal start size room = blocks.counting s.machine.map b start size (readNumber s b journal start size room)
+unfoldable pub read_out : State → Lent → List ℕ → ℕ → ℕ → ℕ → blocks.Counted
+read_out s b journal start size room = blocks.counting s.machine.map b start size (read_number s b journal start size room)
 
-unfoldable pub readOutBuffer : State → Lent → List ℕ → ℕ → ℕ → List ℕ → List ℕ
-readOutBuffer s b journal start size buffer =
-    blocks.copying s.machine.map b start size (readNumber s b journal start size (length buffer)) buffer
+unfoldable pub read_out_buffer : State → Lent → List ℕ → ℕ → ℕ → List ℕ → List ℕ
+read_out_buffer s b journal start size buffer =
+    blocks.copying s.machine.map b start size (read_number s b journal start size (length buffer)) buffer
 
 -- ---- for an inner function's contract alone
 

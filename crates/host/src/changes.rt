@@ -1,8 +1,8 @@
 // The state after an entry.
 ghost use Rattle.std.specs.Prelude.{◌≡◌};
-ghost use Rattle.base.specs.Numbers.{answerNumber};
+ghost use Rattle.base.specs.Numbers.{answer_number};
 ghost use Rattle.journal.specs.States.{state};
-ghost use Rattle.host.specs.Host.{withMap, settled};
+ghost use Rattle.host.specs.Host.{with_map, settled};
 
 use base::{Answer, Refusal};
 use journal::{Changed, State};
@@ -11,7 +11,7 @@ use map::Map;
 
 // 1, which leaves the state as it was.
 pub fn bad_state(s: State) -> Changed
-    ensures answer_value { answerNumber result.answer ≡ 1 }
+    ensures answer_value { answer_number result.answer ≡ 1 }
     ensures state_value { result.state ≡ s }
 {
     Changed {
@@ -32,7 +32,7 @@ pub fn emptied(m: Machine) -> State
 }
 
 pub fn with_map(m: Machine, t: Map) -> Machine
-    ensures { result ≡ withMap m t }
+    ensures { result ≡ with_map m t }
 {
     let registers = m.registers;
     let mode = m.mode;
@@ -46,7 +46,7 @@ pub fn with_map(m: Machine, t: Map) -> Machine
 // The new machine with an empty journal where the answer accepts it, else the state as it was.
 pub fn settled(s: State, answer: Answer, m: Machine) -> Changed
     ensures answer_value { result.answer ≡ answer }
-    ensures state_value { result.state ≡ settled s (answerNumber answer) m }
+    ensures state_value { result.state ≡ settled s (answer_number answer) m }
 {
     match answer {
         Answer::Accepted => Changed {

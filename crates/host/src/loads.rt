@@ -1,8 +1,8 @@
 // Loading a program.
 ghost use Rattle.std.specs.Prelude.{◌≡◌};
-ghost use Rattle.base.specs.Numbers.{answerNumber};
+ghost use Rattle.base.specs.Numbers.{answer_number};
 ghost use Rattle.memory.specs.Bytes.{lent};
-ghost use Rattle.host.specs.Host.{past, loadNumber, loadState, loadBytes};
+ghost use Rattle.host.specs.Host.{past, load_number, load_state, load_bytes};
 
 use crate::changes::{bad_state, emptied, with_map};
 use base::Answer;
@@ -10,7 +10,7 @@ use journal::{Changed, State};
 
 // Whether a load of a valid state came as far as storing, by its answer.
 fn is_past(answer: Answer) -> bool
-    ensures { result ≡ past (answerNumber answer) }
+    ensures { result ≡ past (answer_number answer) }
 {
     match answer {
         Answer::Accepted => true,
@@ -29,9 +29,9 @@ pub fn write_program(
     journal: &[u8],
     words: &[u16],
 ) -> Changed
-    ensures answer_value { answerNumber result.answer ≡ loadNumber s (lent mem.old dev.old) journal.now words.now }
-    ensures state_value { result.state ≡ loadState s (lent mem.old dev.old) journal.now words.now }
-    ensures dev_after { lent mem.new dev.new ≡ loadBytes s (lent mem.old dev.old) journal.now words.now }
+    ensures answer_value { answer_number result.answer ≡ load_number s (lent mem.old dev.old) journal.now words.now }
+    ensures state_value { result.state ≡ load_state s (lent mem.old dev.old) journal.now words.now }
+    ensures dev_after { lent mem.new dev.new ≡ load_bytes s (lent mem.old dev.old) journal.now words.now }
 {
     if !journal::valid(s, dev, journal) {
         return bad_state(s);

@@ -2,7 +2,7 @@
 ghost use Rattle.std.specs.Prelude.{◌≡◌, length};
 ghost use Rattle.memory.specs.Bytes.{lent};
 ghost use Rattle.memory.specs.Blocks.{counted};
-ghost use Rattle.host.specs.Host.{readOut, readOutBuffer};
+ghost use Rattle.host.specs.Host.{read_out, read_out_buffer};
 
 use base::Refusal;
 use journal::State;
@@ -19,8 +19,8 @@ pub fn read_out(
     size: usize,
     buffer: &mut [u8],
 ) -> ReadOut
-    ensures result_value { counted result ≡ readOut s (lent mem.now dev.now) journal.now start size (length buffer.old) }
-    ensures buffer_after { buffer.new ≡ readOutBuffer s (lent mem.now dev.now) journal.now start size buffer.old }
+    ensures result_value { counted result ≡ read_out s (lent mem.now dev.now) journal.now start size (length buffer.old) }
+    ensures buffer_after { buffer.new ≡ read_out_buffer s (lent mem.now dev.now) journal.now start size buffer.old }
 {
     if !journal::valid(s, dev, journal) {
         return ReadOut::Refused(Refusal::BadState);

@@ -9,7 +9,7 @@ use lib.Dec.{eqb}
 use lib.ListN.{length, get_or}
 use borrow.Author.Tests.{eqb-true, eqb-false}
 use Rattle.base.proofs.Matches.{None, default}
-use Rattle.instruction.specs.Codes.{registerOf, arith_of, arithmeticOf, compareOf, registerCode, arithCode, arithmeticCode, compare_code}
+use Rattle.instruction.specs.Codes.{register_of, arith_of, arithmetic_of, compare_of, register_code, arith_code, arithmetic_code, compare_code}
 use Rattle.instruction.specs.declared.Register.{Register}
 use Rattle.instruction.specs.declared.Register.TheVariants.{A, B, C, M, SP, PC, BP, FLAGS}
 use Rattle.instruction.specs.declared.ArithOp.{ArithOp}
@@ -25,7 +25,7 @@ last {A} xs k d n l e t = go (eqb n k) refl
     go true q = sym (ap (λ (m : ℕ). get_or xs m d) (eqb-true n k q) ∙ e)
     go false q = default xs d n (subst (λ (m : ℕ). None m n) (sym l) (t, eqb-false n k q))
 
-pub register-back : (r : Register) → registerOf (registerCode r) ≡ r
+pub register-back : (r : Register) → register_of (register_code r) ≡ r
 register-back A = refl
 register-back B = refl
 register-back C = refl
@@ -35,13 +35,13 @@ register-back PC = refl
 register-back BP = refl
 register-back FLAGS = refl
 
-pub arith-back : (k : ArithOp) → arith_of (arithCode k) ≡ k
+pub arith-back : (k : ArithOp) → arith_of (arith_code k) ≡ k
 arith-back ArithOp.Add = refl
 arith-back ArithOp.Sub = refl
 arith-back ArithOp.Mul = refl
 arith-back ArithOp.Div = refl
 
-pub arithmetic-back : (k : ArithmeticOp) → arithmeticOf (arithmeticCode k) ≡ k
+pub arithmetic-back : (k : ArithmeticOp) → arithmetic_of (arithmetic_code k) ≡ k
 arithmetic-back ArithmeticOp.Add = refl
 arithmetic-back ArithmeticOp.Sub = refl
 arithmetic-back ArithmeticOp.Mul = refl
@@ -50,7 +50,7 @@ arithmetic-back ArithmeticOp.Mod = refl
 arithmetic-back ArithmeticOp.Exp = refl
 arithmetic-back ArithmeticOp.Sqrt = refl
 
-pub compare-back : (k : CompareOp) → compareOf (compare_code k) ≡ k
+pub compare-back : (k : CompareOp) → compare_of (compare_code k) ≡ k
 compare-back Eq = refl
 compare-back NotEq = refl
 compare-back Less = refl
@@ -58,7 +58,7 @@ compare-back LessEq = refl
 compare-back Greater = refl
 compare-back GreaterEq = refl
 
-pub register-lt : (r : Register) → registerCode r < 8
+pub register-lt : (r : Register) → register_code r < 8
 register-lt A = omega arith
 register-lt B = omega arith
 register-lt C = omega arith
@@ -68,13 +68,13 @@ register-lt PC = omega arith
 register-lt BP = omega arith
 register-lt FLAGS = omega arith
 
-pub arith-lt : (k : ArithOp) → arithCode k < 4
+pub arith-lt : (k : ArithOp) → arith_code k < 4
 arith-lt ArithOp.Add = omega arith
 arith-lt ArithOp.Sub = omega arith
 arith-lt ArithOp.Mul = omega arith
 arith-lt ArithOp.Div = omega arith
 
-pub arithmetic-lt : (k : ArithmeticOp) → arithmeticCode k < 7
+pub arithmetic-lt : (k : ArithmeticOp) → arithmetic_code k < 7
 arithmetic-lt ArithmeticOp.Add = omega arith
 arithmetic-lt ArithmeticOp.Sub = omega arith
 arithmetic-lt ArithmeticOp.Mul = omega arith

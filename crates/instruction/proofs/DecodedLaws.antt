@@ -16,8 +16,8 @@ use Rattle.fields.proofs.Laws.{field_fits}
 use Rattle.instruction.specs.declared.Operand.{Operand}
 use Rattle.instruction.specs.declared.Operand.TheVariants.{Reg, Imm}
 use Rattle.instruction.specs.declared.Instruction.{Instruction}
-use Rattle.instruction.specs.Decode.{bit_at, registerAt, operand_at, conditional, arms, arm, decode}
-use Rattle.instruction.specs.Fits.{within, operandFits, fits, decodable}
+use Rattle.instruction.specs.Decode.{bit_at, register_at, operand_at, conditional, arms, arm, decode}
+use Rattle.instruction.specs.Fits.{within, operand_fits, fits, decodable}
 
 -- a test that holds of whatever is told
 abbrev All : (Instruction → Bool) → Told Instruction → Type 0
@@ -45,14 +45,14 @@ field-within w at width = lt-ltb (field_of w at width) (2 ^ width) (field_fits w
 shift-within : (w : ℕ) → (within 3 (field_of w 7 3) && within 5 (field_of w 11 5)) ≡ true
 shift-within w = rw (field-within w 7 3, field-within w 11 5)
 
-pub operand-within : (w at width : ℕ) → operandFits width (operand_at w at width) ≡ true
+pub operand-within : (w at width : ℕ) → operand_fits width (operand_at w at width) ≡ true
 operand-within w at width = go (bit_at w at)
   where
-    go : (b : Bool) → operandFits width (cond b (Reg (registerAt w (at + 1))) (Imm (field_of w (at + 1) width))) ≡ true
+    go : (b : Bool) → operand_fits width (cond b (Reg (register_at w (at + 1))) (Imm (field_of w (at + 1) width))) ≡ true
     go true = refl
     go false = field-within w (at + 1) width
 
-conditional-fits : (o : Operand) → operandFits 11 o ≡ true → fits (conditional o) ≡ true
+conditional-fits : (o : Operand) → operand_fits 11 o ≡ true → fits (conditional o) ≡ true
 conditional-fits (Reg r) h = refl
 conditional-fits (Imm v) h = h
 

@@ -19,8 +19,8 @@ use Rattle.instruction.specs.declared.Instruction.{Instruction}
 use Rattle.instruction.specs.declared.Instruction.TheVariants.{Jmp, CondJmp}
 use Rattle.instruction.specs.Decode.{operand_at, conditional, arm, arms, decode}
 use Rattle.instruction.specs.Encode.{mode, value, encode}
-use Rattle.instruction.specs.Fits.{operandFits, fits, decodable}
-use Rattle.instruction.specs.Editions.{decodeIn}
+use Rattle.instruction.specs.Fits.{operand_fits, fits, decodable}
+use Rattle.instruction.specs.Editions.{decode_in}
 use Rattle.instruction.proofs.RoundTrip.{operand-back, low_bits, round_trip, register-cjp-only}
 use Rattle.instruction.proofs.DecodedLaws.{operand-within, decoded-fits}
 
@@ -31,8 +31,8 @@ jump-bits o = unpacked (encode (Jmp o)) 0 4 0 6 (mode o % 2 + value o % 2048 * 2
 cond-bits : (o : Operand) → field_of (encode (CondJmp o)) 0 4 ≡ 5
 cond-bits o = unpacked (encode (CondJmp o)) 0 4 0 5 (mode o % 2 + value o % 2048 * 2) (omega arith) (omega arith) (omega arith)
 
-cond_back : (o : Operand) → operandFits 11 o ≡ true → decodeIn Second (encode (CondJmp o)) ≡ is (CondJmp o)
-unfolding decodeIn
+cond_back : (o : Operand) → operand_fits 11 o ≡ true → decode_in Second (encode (CondJmp o)) ≡ is (CondJmp o)
+unfolding decode_in
 cond_back o f =
     rw (eq-eqb (field_of (encode (CondJmp o)) 0 4) 5 (cond-bits o)) (ap (λ (x : Operand). is (CondJmp x)) (operand-back 4 11 5 o (omega arith) (omega arith) f))
 
@@ -41,8 +41,8 @@ five : (o : Operand) (i : Instruction) → i ≡ conditional o → field_of (enc
 five (Reg r) i e h = absurd (let k : field_of (encode i) 0 4 ≡ 6 = ap (λ (j : Instruction). field_of (encode j) 0 4) e ∙ jump-bits (Reg r) in omega arith)
 five (Imm v) i e h = ap is (sym e)
 
-by_first : (i : Instruction) → decode (encode i) ≡ is i → decodeIn Second (encode i) ≡ is i
-unfolding decodeIn arm arms
+by_first : (i : Instruction) → decode (encode i) ≡ is i → decode_in Second (encode i) ≡ is i
+unfolding decode_in arm arms
 by_first i e = go (eqb (field_of (encode i) 0 4) 5) refl
   where
     w : ℕ
@@ -54,15 +54,15 @@ by_first i e = go (eqb (field_of (encode i) 0 4) 5) refl
         five (operand_at w 4 11) i (is_one i (conditional (operand_at w 4 11)) (sym e ∙ low_bits w 5 l)) l
     go false h = e
 
-pub second_back : (i : Instruction) → fits i ≡ true → decodeIn Second (encode i) ≡ is i
+pub second_back : (i : Instruction) → fits i ≡ true → decode_in Second (encode i) ≡ is i
 second_back i f = go (decodable i) refl
   where
-    go : (t : Bool) → decodable i ≡ t → decodeIn Second (encode i) ≡ is i
+    go : (t : Bool) → decodable i ≡ t → decode_in Second (encode i) ≡ is i
     go true d = by_first i (round_trip i f d)
-    go false d = let h = register-cjp-only i d in subst (λ (j : Instruction). decodeIn Second (encode j) ≡ is j) (sym h.1) (cond_back (Reg h.0) refl)
+    go false d = let h = register-cjp-only i d in subst (λ (j : Instruction). decode_in Second (encode j) ≡ is j) (sym h.1) (cond_back (Reg h.0) refl)
 
-pub second_fits : (w : ℕ) (i : Instruction) → decodeIn Second w ≡ is i → fits i ≡ true
-unfolding decodeIn
+pub second_fits : (w : ℕ) (i : Instruction) → decode_in Second w ≡ is i → fits i ≡ true
+unfolding decode_in
 second_fits w i e = go (eqb (field_of w 0 4) 5) e
   where
     go : (t : Bool) → cond t (is (CondJmp (operand_at w 4 11))) (decode w) ≡ is i → fits i ≡ true

@@ -11,26 +11,26 @@ use Rattle.instruction.specs.declared.Instruction.{Instruction}
 use Rattle.instruction.specs.declared.Instruction.TheVariants.{Noop, Mov, MovShift, Arith, ArithRegReg, LdrStr, LdbStb, Cpy, Jmp, CondJmp, Cmp, CallRet}
 use Rattle.instruction.specs.declared.Operand.{Operand}
 use Rattle.instruction.specs.declared.Operand.TheVariants.{Reg, Imm}
-use Rattle.instruction.specs.Codes.{arithCode, compare_code}
-use Rattle.instruction.specs.Encode.{bit, registerIn, encode}
-use Rattle.instruction.specs.Fits.{within, operandFits, fits, sayable}
+use Rattle.instruction.specs.Codes.{arith_code, compare_code}
+use Rattle.instruction.specs.Encode.{bit, register_in, encode}
+use Rattle.instruction.specs.Fits.{within, operand_fits, fits, sayable}
 
-abbrev maskedOperand : ℕ → Operand → Operand
-maskedOperand width (Reg r) = Reg r
-maskedOperand width (Imm v) = Imm (v % 2 ^ width)
+abbrev masked_operand : ℕ → Operand → Operand
+masked_operand width (Reg r) = Reg r
+masked_operand width (Imm v) = Imm (v % 2 ^ width)
 
 abbrev pub masked : Instruction → Instruction
 masked Noop = Noop
-masked (Mov d o) = Mov d (maskedOperand 8 o)
+masked (Mov d o) = Mov d (masked_operand 8 o)
 masked (MovShift r n left v) = MovShift r (n % 2 ^ 3) left (v % 2 ^ 5)
-masked (Arith d o k) = Arith d (maskedOperand 6 o) k
+masked (Arith d o k) = Arith d (masked_operand 6 o) k
 masked (ArithRegReg d a b k) = ArithRegReg d a b k
 masked (LdrStr r a s n) = LdrStr r a s (n % 2 ^ 5)
 masked (LdbStb r a s n) = LdbStb r a s (n % 2 ^ 5)
 masked (Cpy a b) = Cpy a b
-masked (Jmp o) = Jmp (maskedOperand 11 o)
-masked (CondJmp o) = CondJmp (maskedOperand 11 o)
-masked (Cmp r o k) = Cmp r (maskedOperand 5 o) k
+masked (Jmp o) = Jmp (masked_operand 11 o)
+masked (CondJmp o) = CondJmp (masked_operand 11 o)
+masked (Cmp r o k) = Cmp r (masked_operand 5 o) k
 masked (CallRet ret a) = CallRet ret (a % 2 ^ 11)
 
 -- ---- the same word
@@ -41,22 +41,22 @@ place-mask v at width = ap (λ (x : ℕ). x * 2 ^ at) (mod-eq_of_lt (mod-lt v (p
 pub mask_word : (i : Instruction) → encode (masked i) ≡ encode i
 mask_word Noop = refl
 mask_word (Mov d (Reg r)) = refl
-mask_word (Mov d (Imm v)) = ap (λ (x : ℕ). 1 + registerIn d 4 + place_of 0 7 1 + x) (place-mask v 8 8)
+mask_word (Mov d (Imm v)) = ap (λ (x : ℕ). 1 + register_in d 4 + place_of 0 7 1 + x) (place-mask v 8 8)
 mask_word (MovShift r n left v) =
-    ap (λ (x : ℕ). 2 + registerIn r 4 + x + place_of (bit left) 10 1 + place_of (v % 2 ^ 5) 11 5) (place-mask n 7 3) ∙
-    ap (λ (x : ℕ). 2 + registerIn r 4 + place_of n 7 3 + place_of (bit left) 10 1 + x) (place-mask v 11 5)
+    ap (λ (x : ℕ). 2 + register_in r 4 + x + place_of (bit left) 10 1 + place_of (v % 2 ^ 5) 11 5) (place-mask n 7 3) ∙
+    ap (λ (x : ℕ). 2 + register_in r 4 + place_of n 7 3 + place_of (bit left) 10 1 + x) (place-mask v 11 5)
 mask_word (Arith d (Reg r) k) = refl
-mask_word (Arith d (Imm v) k) = ap (λ (x : ℕ). 3 + registerIn d 4 + place_of (arithCode k) 7 2 + place_of 0 9 1 + x) (place-mask v 10 6)
+mask_word (Arith d (Imm v) k) = ap (λ (x : ℕ). 3 + register_in d 4 + place_of (arith_code k) 7 2 + place_of 0 9 1 + x) (place-mask v 10 6)
 mask_word (ArithRegReg d a b k) = refl
-mask_word (LdrStr r a s n) = ap (λ (x : ℕ). 4 + registerIn r 4 + registerIn a 7 + place_of (bit s) 10 1 + x) (place-mask n 11 5)
-mask_word (LdbStb r a s n) = ap (λ (x : ℕ). 8 + registerIn r 4 + registerIn a 7 + place_of (bit s) 10 1 + x) (place-mask n 11 5)
+mask_word (LdrStr r a s n) = ap (λ (x : ℕ). 4 + register_in r 4 + register_in a 7 + place_of (bit s) 10 1 + x) (place-mask n 11 5)
+mask_word (LdbStb r a s n) = ap (λ (x : ℕ). 8 + register_in r 4 + register_in a 7 + place_of (bit s) 10 1 + x) (place-mask n 11 5)
 mask_word (Cpy a b) = refl
 mask_word (Jmp (Reg r)) = refl
 mask_word (Jmp (Imm v)) = ap (λ (x : ℕ). 6 + place_of 0 4 1 + x) (place-mask v 5 11)
 mask_word (CondJmp (Reg r)) = refl
 mask_word (CondJmp (Imm v)) = ap (λ (x : ℕ). 5 + place_of 0 4 1 + x) (place-mask v 5 11)
 mask_word (Cmp r (Reg x) k) = refl
-mask_word (Cmp r (Imm v) k) = ap (λ (x : ℕ). 7 + registerIn r 4 + place_of (compare_code k) 7 3 + place_of 0 10 1 + x) (place-mask v 11 5)
+mask_word (Cmp r (Imm v) k) = ap (λ (x : ℕ). 7 + register_in r 4 + place_of (compare_code k) 7 3 + place_of 0 10 1 + x) (place-mask v 11 5)
 mask_word (CallRet ret a) = ap (λ (x : ℕ). 11 + place_of (bit ret) 4 1 + x) (place-mask a 5 11)
 
 -- ---- and it fits
@@ -64,7 +64,7 @@ mask_word (CallRet ret a) = ap (λ (x : ℕ). 11 + place_of (bit ret) 4 1 + x) (
 mask-within : (v width : ℕ) → within width (v % 2 ^ width) ≡ true
 mask-within v width = lt-ltb (v % 2 ^ width) (2 ^ width) (mod-lt v (pow_pos width))
 
-operand-mask : (width : ℕ) (o : Operand) → operandFits width (maskedOperand width o) ≡ true
+operand-mask : (width : ℕ) (o : Operand) → operand_fits width (masked_operand width o) ≡ true
 operand-mask width (Reg r) = refl
 operand-mask width (Imm v) = mask-within v width
 

@@ -6,33 +6,33 @@ use lib.ListN.{get_or-eq_default}
 use borrow.Author.Tests.{lt-ltb, le-ltb}
 use Rattle.base.specs.Told.{is, no}
 use Rattle.fields.specs.Fields.{field_of}
-use Rattle.instruction.specs.Codes.{arith_of, arithmeticOf, compareOf}
+use Rattle.instruction.specs.Codes.{arith_of, arithmetic_of, compare_of}
 use Rattle.instruction.specs.declared.Instruction.TheVariants.{Noop, Mov, MovShift, Arith, ArithRegReg, LdrStr, LdbStb, Cpy, Jmp, Cmp, CallRet}
-use Rattle.instruction.specs.Decode.{registerAt, bit_at, operand_at, conditional, arms, arm, decode}
+use Rattle.instruction.specs.Decode.{register_at, bit_at, operand_at, conditional, arms, arm, decode}
 
 pub decode-noop : (w : ℕ) → field_of w 0 4 ≡ 0 → decode w ≡ is Noop
 unfolding decode arm arms
 decode-noop w e = rw e
 
-pub decode-mov : (w : ℕ) → field_of w 0 4 ≡ 1 → decode w ≡ is (Mov (registerAt w 4) (operand_at w 7 8))
+pub decode-mov : (w : ℕ) → field_of w 0 4 ≡ 1 → decode w ≡ is (Mov (register_at w 4) (operand_at w 7 8))
 unfolding decode arm arms
 decode-mov w e = rw e
 
 pub decode-mov-shift :
     (w : ℕ) → field_of w 0 4 ≡ 2 →
-    decode w ≡ is (MovShift (registerAt w 4) (field_of w 7 3) (bit_at w 10) (field_of w 11 5))
+    decode w ≡ is (MovShift (register_at w 4) (field_of w 7 3) (bit_at w 10) (field_of w 11 5))
 unfolding decode arm arms
 decode-mov-shift w e = rw e
 
 pub decode-arith :
     (w : ℕ) → field_of w 0 4 ≡ 3 →
-    decode w ≡ is (Arith (registerAt w 4) (operand_at w 9 6) (arith_of (field_of w 7 2)))
+    decode w ≡ is (Arith (register_at w 4) (operand_at w 9 6) (arith_of (field_of w 7 2)))
 unfolding decode arm arms
 decode-arith w e = rw e
 
 pub decode-ldr-str :
     (w : ℕ) → field_of w 0 4 ≡ 4 →
-    decode w ≡ is (LdrStr (registerAt w 4) (registerAt w 7) (bit_at w 10) (field_of w 11 5))
+    decode w ≡ is (LdrStr (register_at w 4) (register_at w 7) (bit_at w 10) (field_of w 11 5))
 unfolding decode arm arms
 decode-ldr-str w e = rw e
 
@@ -46,7 +46,7 @@ decode-jmp w e = rw e
 
 pub decode-cmp :
     (w : ℕ) → field_of w 0 4 ≡ 7 → field_of w 7 3 < 6 →
-    decode w ≡ is (Cmp (registerAt w 4) (operand_at w 10 5) (compareOf (field_of w 7 3)))
+    decode w ≡ is (Cmp (register_at w 4) (operand_at w 10 5) (compare_of (field_of w 7 3)))
 unfolding decode arm arms
 decode-cmp w e h = rw (e, lt-ltb _ _ h)
 
@@ -56,17 +56,17 @@ decode-bad-compare w e h = rw (e, le-ltb _ _ h)
 
 pub decode-ldb-stb :
     (w : ℕ) → field_of w 0 4 ≡ 8 →
-    decode w ≡ is (LdbStb (registerAt w 4) (registerAt w 7) (bit_at w 10) (field_of w 11 5))
+    decode w ≡ is (LdbStb (register_at w 4) (register_at w 7) (bit_at w 10) (field_of w 11 5))
 unfolding decode arm arms
 decode-ldb-stb w e = rw e
 
-pub decode-cpy : (w : ℕ) → field_of w 0 4 ≡ 9 → decode w ≡ is (Cpy (registerAt w 4) (registerAt w 7))
+pub decode-cpy : (w : ℕ) → field_of w 0 4 ≡ 9 → decode w ≡ is (Cpy (register_at w 4) (register_at w 7))
 unfolding decode arm arms
 decode-cpy w e = rw e
 
 pub decode-arith-reg-reg :
     (w : ℕ) → field_of w 0 4 ≡ 10 → field_of w 7 3 < 7 →
-    decode w ≡ is (ArithRegReg (registerAt w 4) (registerAt w 10) (registerAt w 13) (arithmeticOf (field_of w 7 3)))
+    decode w ≡ is (ArithRegReg (register_at w 4) (register_at w 10) (register_at w 13) (arithmetic_of (field_of w 7 3)))
 unfolding decode arm arms
 decode-arith-reg-reg w e h = rw (e, lt-ltb _ _ h)
 

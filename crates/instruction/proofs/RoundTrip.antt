@@ -21,10 +21,10 @@ use Rattle.instruction.specs.declared.ArithmeticOp.{ArithmeticOp}
 use Rattle.instruction.specs.declared.CompareOp.{CompareOp}
 use Rattle.instruction.specs.declared.Instruction.{Instruction}
 use Rattle.instruction.specs.declared.Instruction.TheVariants.{Noop, Mov, MovShift, Arith, ArithRegReg, LdrStr, LdbStb, Cpy, Jmp, CondJmp, Cmp, CallRet}
-use Rattle.instruction.specs.Codes.{registerCode, arithCode, arithmeticCode, compare_code}
+use Rattle.instruction.specs.Codes.{register_code, arith_code, arithmetic_code, compare_code}
 use Rattle.instruction.specs.Decode.{operand_at, arms, arm, decode}
 use Rattle.instruction.specs.Encode.{bit, mode, value, encode}
-use Rattle.instruction.specs.Fits.{within, operandFits, fits, decodable}
+use Rattle.instruction.specs.Fits.{within, operand_fits, fits, decodable}
 use Rattle.instruction.proofs.CodeLaws.{register-back, arith-back, arithmetic-back, compare-back, register-lt, arith-lt, arithmetic-lt, compare-lt}
 
 bit-lt : (b : Bool) → bit b < 2
@@ -36,14 +36,14 @@ bit-back true = refl
 bit-back false = refl
 
 -- the operand that stands at the top of a word
-pub operand-back : (at width under : ℕ) (o : Operand) → under < 2 ^ at → 3 ≤ width → operandFits width o ≡ true
+pub operand-back : (at width under : ℕ) (o : Operand) → under < 2 ^ at → 3 ≤ width → operand_fits width o ≡ true
     → operand_at (under + place_of (mode o) at 1 + place_of (value o) (at + 1) width) at width ≡ o
 operand-back at width under (Reg r) l h f =
-    let w : ℕ = under + place_of 1 at 1 + place_of (registerCode r) (at + 1) width in
+    let w : ℕ = under + place_of 1 at 1 + place_of (register_code r) (at + 1) width in
     let p = pow-add 2 at 1 in
-    let e : registerCode r % 2 ^ width ≡ registerCode r = mod-eq_of_lt (lt_of_lt_of_le (register-lt r) (pow_mono h)) in
-    let m : field_of w at 1 ≡ 1 = unpacked w at 1 under 1 (registerCode r) (rw (e, p) (omega arith)) l (omega arith) in
-    let v : field_of w (at + 1) 3 ≡ registerCode r = unpacked w (at + 1) 3 (under + 2 ^ at) (registerCode r) 0 (rw (e, p) (omega arith)) (rw p (omega arith)) (register-lt r) in
+    let e : register_code r % 2 ^ width ≡ register_code r = mod-eq_of_lt (lt_of_lt_of_le (register-lt r) (pow_mono h)) in
+    let m : field_of w at 1 ≡ 1 = unpacked w at 1 under 1 (register_code r) (rw (e, p) (omega arith)) l (omega arith) in
+    let v : field_of w (at + 1) 3 ≡ register_code r = unpacked w (at + 1) 3 (under + 2 ^ at) (register_code r) 0 (rw (e, p) (omega arith)) (rw p (omega arith)) (register-lt r) in
     rw (m, v, register-back r)
 operand-back at width under (Imm n) l h f =
     let w : ℕ = under + place_of 0 at 1 + place_of n (at + 1) width in
@@ -59,14 +59,14 @@ pub low_bits : (w n : ℕ) → field_of w 0 4 ≡ n → decode w ≡ arm w n
 unfolding decode
 low_bits w n e = ap (arm w) e
 
-mov-back : (d : Register) (o : Operand) → operandFits 8 o ≡ true → decode (encode (Mov d o)) ≡ is (Mov d o)
+mov-back : (d : Register) (o : Operand) → operand_fits 8 o ≡ true → decode (encode (Mov d o)) ≡ is (Mov d o)
 unfolding arm arms
 mov-back d o f =
     let w = encode (Mov d o) in
     let hd = register-lt d in
-    let op : field_of w 0 4 ≡ 1 = unpacked w 0 4 0 1 (registerCode d % 8 + mode o % 2 * 8 + value o % 256 * 16) (omega arith) (omega arith) (omega arith) in
-    let dst : field_of w 4 3 ≡ registerCode d = unpacked w 4 3 1 (registerCode d) (mode o % 2 + value o % 256 * 2) (omega arith) (omega arith) (omega arith) in
-    low_bits w 1 op ∙ rw (dst, register-back d, operand-back 7 8 (1 + registerCode d % 8 * 16) o (omega arith) (omega arith) f)
+    let op : field_of w 0 4 ≡ 1 = unpacked w 0 4 0 1 (register_code d % 8 + mode o % 2 * 8 + value o % 256 * 16) (omega arith) (omega arith) (omega arith) in
+    let dst : field_of w 4 3 ≡ register_code d = unpacked w 4 3 1 (register_code d) (mode o % 2 + value o % 256 * 2) (omega arith) (omega arith) (omega arith) in
+    low_bits w 1 op ∙ rw (dst, register-back d, operand-back 7 8 (1 + register_code d % 8 * 16) o (omega arith) (omega arith) f)
 
 mov-shift-back : (r : Register) (n : ℕ) (left : Bool) (v : ℕ) → n < 2 ^ 3 → v < 2 ^ 5 → decode (encode (MovShift r n left v)) ≡ is (MovShift r n left v)
 unfolding arm arms
@@ -74,23 +74,23 @@ mov-shift-back r n left v hn hv =
     let w = encode (MovShift r n left v) in
     let hr = register-lt r in
     let hl = bit-lt left in
-    let op : field_of w 0 4 ≡ 2 = unpacked w 0 4 0 2 (registerCode r % 8 + n % 8 * 8 + bit left % 2 * 64 + v % 32 * 128) (omega arith) (omega arith) (omega arith) in
-    let reg : field_of w 4 3 ≡ registerCode r = unpacked w 4 3 2 (registerCode r) (n % 8 + bit left % 2 * 8 + v % 32 * 16) (omega arith) (omega arith) (omega arith) in
-    let amount : field_of w 7 3 ≡ n = unpacked w 7 3 (2 + registerCode r % 8 * 16) n (bit left % 2 + v % 32 * 2) (omega arith) (omega arith) (omega arith) in
-    let way : field_of w 10 1 ≡ bit left = unpacked w 10 1 (2 + registerCode r % 8 * 16 + n % 8 * 128) (bit left) (v % 32) (omega arith) (omega arith) (omega arith) in
-    let imm : field_of w 11 5 ≡ v = unpacked w 11 5 (2 + registerCode r % 8 * 16 + n % 8 * 128 + bit left % 2 * 1024) v 0 (omega arith) (omega arith) (omega arith) in
+    let op : field_of w 0 4 ≡ 2 = unpacked w 0 4 0 2 (register_code r % 8 + n % 8 * 8 + bit left % 2 * 64 + v % 32 * 128) (omega arith) (omega arith) (omega arith) in
+    let reg : field_of w 4 3 ≡ register_code r = unpacked w 4 3 2 (register_code r) (n % 8 + bit left % 2 * 8 + v % 32 * 16) (omega arith) (omega arith) (omega arith) in
+    let amount : field_of w 7 3 ≡ n = unpacked w 7 3 (2 + register_code r % 8 * 16) n (bit left % 2 + v % 32 * 2) (omega arith) (omega arith) (omega arith) in
+    let way : field_of w 10 1 ≡ bit left = unpacked w 10 1 (2 + register_code r % 8 * 16 + n % 8 * 128) (bit left) (v % 32) (omega arith) (omega arith) (omega arith) in
+    let imm : field_of w 11 5 ≡ v = unpacked w 11 5 (2 + register_code r % 8 * 16 + n % 8 * 128 + bit left % 2 * 1024) v 0 (omega arith) (omega arith) (omega arith) in
     low_bits w 2 op ∙ rw (reg, register-back r, amount, way, bit-back left, imm)
 
-arith-word-back : (d : Register) (o : Operand) (k : ArithOp) → operandFits 6 o ≡ true → decode (encode (Arith d o k)) ≡ is (Arith d o k)
+arith-word-back : (d : Register) (o : Operand) (k : ArithOp) → operand_fits 6 o ≡ true → decode (encode (Arith d o k)) ≡ is (Arith d o k)
 unfolding arm arms
 arith-word-back d o k f =
     let w = encode (Arith d o k) in
     let hd = register-lt d in
     let hk = arith-lt k in
-    let op : field_of w 0 4 ≡ 3 = unpacked w 0 4 0 3 (registerCode d % 8 + arithCode k % 4 * 8 + mode o % 2 * 32 + value o % 64 * 64) (omega arith) (omega arith) (omega arith) in
-    let dst : field_of w 4 3 ≡ registerCode d = unpacked w 4 3 3 (registerCode d) (arithCode k % 4 + mode o % 2 * 4 + value o % 64 * 8) (omega arith) (omega arith) (omega arith) in
-    let by : field_of w 7 2 ≡ arithCode k = unpacked w 7 2 (3 + registerCode d % 8 * 16) (arithCode k) (mode o % 2 + value o % 64 * 2) (omega arith) (omega arith) (omega arith) in
-    low_bits w 3 op ∙ rw (dst, register-back d, by, arith-back k, operand-back 9 6 (3 + registerCode d % 8 * 16 + arithCode k % 4 * 128) o (omega arith) (omega arith) f)
+    let op : field_of w 0 4 ≡ 3 = unpacked w 0 4 0 3 (register_code d % 8 + arith_code k % 4 * 8 + mode o % 2 * 32 + value o % 64 * 64) (omega arith) (omega arith) (omega arith) in
+    let dst : field_of w 4 3 ≡ register_code d = unpacked w 4 3 3 (register_code d) (arith_code k % 4 + mode o % 2 * 4 + value o % 64 * 8) (omega arith) (omega arith) (omega arith) in
+    let by : field_of w 7 2 ≡ arith_code k = unpacked w 7 2 (3 + register_code d % 8 * 16) (arith_code k) (mode o % 2 + value o % 64 * 2) (omega arith) (omega arith) (omega arith) in
+    low_bits w 3 op ∙ rw (dst, register-back d, by, arith-back k, operand-back 9 6 (3 + register_code d % 8 * 16 + arith_code k % 4 * 128) o (omega arith) (omega arith) f)
 
 ldr-str-back : (r a : Register) (s : Bool) (n : ℕ) → n < 2 ^ 5 → decode (encode (LdrStr r a s n)) ≡ is (LdrStr r a s n)
 unfolding arm arms
@@ -99,11 +99,11 @@ ldr-str-back r a s n hn =
     let hr = register-lt r in
     let ha = register-lt a in
     let hs = bit-lt s in
-    let op : field_of w 0 4 ≡ 4 = unpacked w 0 4 0 4 (registerCode r % 8 + registerCode a % 8 * 8 + bit s % 2 * 64 + n % 32 * 128) (omega arith) (omega arith) (omega arith) in
-    let reg : field_of w 4 3 ≡ registerCode r = unpacked w 4 3 4 (registerCode r) (registerCode a % 8 + bit s % 2 * 8 + n % 32 * 16) (omega arith) (omega arith) (omega arith) in
-    let address : field_of w 7 3 ≡ registerCode a = unpacked w 7 3 (4 + registerCode r % 8 * 16) (registerCode a) (bit s % 2 + n % 32 * 2) (omega arith) (omega arith) (omega arith) in
-    let store : field_of w 10 1 ≡ bit s = unpacked w 10 1 (4 + registerCode r % 8 * 16 + registerCode a % 8 * 128) (bit s) (n % 32) (omega arith) (omega arith) (omega arith) in
-    let shift : field_of w 11 5 ≡ n = unpacked w 11 5 (4 + registerCode r % 8 * 16 + registerCode a % 8 * 128 + bit s % 2 * 1024) n 0 (omega arith) (omega arith) (omega arith) in
+    let op : field_of w 0 4 ≡ 4 = unpacked w 0 4 0 4 (register_code r % 8 + register_code a % 8 * 8 + bit s % 2 * 64 + n % 32 * 128) (omega arith) (omega arith) (omega arith) in
+    let reg : field_of w 4 3 ≡ register_code r = unpacked w 4 3 4 (register_code r) (register_code a % 8 + bit s % 2 * 8 + n % 32 * 16) (omega arith) (omega arith) (omega arith) in
+    let address : field_of w 7 3 ≡ register_code a = unpacked w 7 3 (4 + register_code r % 8 * 16) (register_code a) (bit s % 2 + n % 32 * 2) (omega arith) (omega arith) (omega arith) in
+    let store : field_of w 10 1 ≡ bit s = unpacked w 10 1 (4 + register_code r % 8 * 16 + register_code a % 8 * 128) (bit s) (n % 32) (omega arith) (omega arith) (omega arith) in
+    let shift : field_of w 11 5 ≡ n = unpacked w 11 5 (4 + register_code r % 8 * 16 + register_code a % 8 * 128 + bit s % 2 * 1024) n 0 (omega arith) (omega arith) (omega arith) in
     low_bits w 4 op ∙ rw (reg, register-back r, address, register-back a, store, bit-back s, shift)
 
 ldb-stb-back : (r a : Register) (s : Bool) (n : ℕ) → n < 2 ^ 5 → decode (encode (LdbStb r a s n)) ≡ is (LdbStb r a s n)
@@ -113,11 +113,11 @@ ldb-stb-back r a s n hn =
     let hr = register-lt r in
     let ha = register-lt a in
     let hs = bit-lt s in
-    let op : field_of w 0 4 ≡ 8 = unpacked w 0 4 0 8 (registerCode r % 8 + registerCode a % 8 * 8 + bit s % 2 * 64 + n % 32 * 128) (omega arith) (omega arith) (omega arith) in
-    let reg : field_of w 4 3 ≡ registerCode r = unpacked w 4 3 8 (registerCode r) (registerCode a % 8 + bit s % 2 * 8 + n % 32 * 16) (omega arith) (omega arith) (omega arith) in
-    let address : field_of w 7 3 ≡ registerCode a = unpacked w 7 3 (8 + registerCode r % 8 * 16) (registerCode a) (bit s % 2 + n % 32 * 2) (omega arith) (omega arith) (omega arith) in
-    let store : field_of w 10 1 ≡ bit s = unpacked w 10 1 (8 + registerCode r % 8 * 16 + registerCode a % 8 * 128) (bit s) (n % 32) (omega arith) (omega arith) (omega arith) in
-    let shift : field_of w 11 5 ≡ n = unpacked w 11 5 (8 + registerCode r % 8 * 16 + registerCode a % 8 * 128 + bit s % 2 * 1024) n 0 (omega arith) (omega arith) (omega arith) in
+    let op : field_of w 0 4 ≡ 8 = unpacked w 0 4 0 8 (register_code r % 8 + register_code a % 8 * 8 + bit s % 2 * 64 + n % 32 * 128) (omega arith) (omega arith) (omega arith) in
+    let reg : field_of w 4 3 ≡ register_code r = unpacked w 4 3 8 (register_code r) (register_code a % 8 + bit s % 2 * 8 + n % 32 * 16) (omega arith) (omega arith) (omega arith) in
+    let address : field_of w 7 3 ≡ register_code a = unpacked w 7 3 (8 + register_code r % 8 * 16) (register_code a) (bit s % 2 + n % 32 * 2) (omega arith) (omega arith) (omega arith) in
+    let store : field_of w 10 1 ≡ bit s = unpacked w 10 1 (8 + register_code r % 8 * 16 + register_code a % 8 * 128) (bit s) (n % 32) (omega arith) (omega arith) (omega arith) in
+    let shift : field_of w 11 5 ≡ n = unpacked w 11 5 (8 + register_code r % 8 * 16 + register_code a % 8 * 128 + bit s % 2 * 1024) n 0 (omega arith) (omega arith) (omega arith) in
     low_bits w 8 op ∙ rw (reg, register-back r, address, register-back a, store, bit-back s, shift)
 
 cond-jmp-back : (v : ℕ) → within 11 v ≡ true → decode (encode (CondJmp (Imm v))) ≡ is (CondJmp (Imm v))
@@ -140,23 +140,23 @@ register-cjp r =
 not-both : {r : Register} → Jmp (Reg r) ≡ CondJmp (Reg r) → ⊥
 not-both e = let z : ◌≡◌ {A = ℕ} 0 1 = cc in omega arith
 
-jmp-back : (o : Operand) → operandFits 11 o ≡ true → decode (encode (Jmp o)) ≡ is (Jmp o)
+jmp-back : (o : Operand) → operand_fits 11 o ≡ true → decode (encode (Jmp o)) ≡ is (Jmp o)
 unfolding arm arms
 jmp-back o f =
     let w = encode (Jmp o) in
     let op : field_of w 0 4 ≡ 6 = unpacked w 0 4 0 6 (mode o % 2 + value o % 2048 * 2) (omega arith) (omega arith) (omega arith) in
     low_bits w 6 op ∙ rw (operand-back 4 11 6 o (omega arith) (omega arith) f)
 
-cmp-back : (r : Register) (o : Operand) (k : CompareOp) → operandFits 5 o ≡ true → decode (encode (Cmp r o k)) ≡ is (Cmp r o k)
+cmp-back : (r : Register) (o : Operand) (k : CompareOp) → operand_fits 5 o ≡ true → decode (encode (Cmp r o k)) ≡ is (Cmp r o k)
 unfolding arm arms
 cmp-back r o k f =
     let w = encode (Cmp r o k) in
     let hr = register-lt r in
     let hk = compare-lt k in
-    let op : field_of w 0 4 ≡ 7 = unpacked w 0 4 0 7 (registerCode r % 8 + compare_code k % 8 * 8 + mode o % 2 * 64 + value o % 32 * 128) (omega arith) (omega arith) (omega arith) in
-    let reg : field_of w 4 3 ≡ registerCode r = unpacked w 4 3 7 (registerCode r) (compare_code k % 8 + mode o % 2 * 8 + value o % 32 * 16) (omega arith) (omega arith) (omega arith) in
-    let by : field_of w 7 3 ≡ compare_code k = unpacked w 7 3 (7 + registerCode r % 8 * 16) (compare_code k) (mode o % 2 + value o % 32 * 2) (omega arith) (omega arith) (omega arith) in
-    low_bits w 7 op ∙ rw (reg, register-back r, by, compare-back k, lt-ltb (compare_code k) 6 hk, operand-back 10 5 (7 + registerCode r % 8 * 16 + compare_code k % 8 * 128) o (omega arith) (omega arith) f)
+    let op : field_of w 0 4 ≡ 7 = unpacked w 0 4 0 7 (register_code r % 8 + compare_code k % 8 * 8 + mode o % 2 * 64 + value o % 32 * 128) (omega arith) (omega arith) (omega arith) in
+    let reg : field_of w 4 3 ≡ register_code r = unpacked w 4 3 7 (register_code r) (compare_code k % 8 + mode o % 2 * 8 + value o % 32 * 16) (omega arith) (omega arith) (omega arith) in
+    let by : field_of w 7 3 ≡ compare_code k = unpacked w 7 3 (7 + register_code r % 8 * 16) (compare_code k) (mode o % 2 + value o % 32 * 2) (omega arith) (omega arith) (omega arith) in
+    low_bits w 7 op ∙ rw (reg, register-back r, by, compare-back k, lt-ltb (compare_code k) 6 hk, operand-back 10 5 (7 + register_code r % 8 * 16 + compare_code k % 8 * 128) o (omega arith) (omega arith) f)
 
 cpy-back : (s t : Register) → decode (encode (Cpy s t)) ≡ is (Cpy s t)
 unfolding arm arms
@@ -164,9 +164,9 @@ cpy-back s t =
     let w = encode (Cpy s t) in
     let hs = register-lt s in
     let ht = register-lt t in
-    let op : field_of w 0 4 ≡ 9 = unpacked w 0 4 0 9 (registerCode s % 8 + registerCode t % 8 * 8) (omega arith) (omega arith) (omega arith) in
-    let source : field_of w 4 3 ≡ registerCode s = unpacked w 4 3 9 (registerCode s) (registerCode t % 8) (omega arith) (omega arith) (omega arith) in
-    let target : field_of w 7 3 ≡ registerCode t = unpacked w 7 3 (9 + registerCode s % 8 * 16) (registerCode t) 0 (omega arith) (omega arith) (omega arith) in
+    let op : field_of w 0 4 ≡ 9 = unpacked w 0 4 0 9 (register_code s % 8 + register_code t % 8 * 8) (omega arith) (omega arith) (omega arith) in
+    let source : field_of w 4 3 ≡ register_code s = unpacked w 4 3 9 (register_code s) (register_code t % 8) (omega arith) (omega arith) (omega arith) in
+    let target : field_of w 7 3 ≡ register_code t = unpacked w 7 3 (9 + register_code s % 8 * 16) (register_code t) 0 (omega arith) (omega arith) (omega arith) in
     low_bits w 9 op ∙ rw (source, register-back s, target, register-back t)
 
 arith-reg-reg-back : (d a b : Register) (k : ArithmeticOp) → decode (encode (ArithRegReg d a b k)) ≡ is (ArithRegReg d a b k)
@@ -177,12 +177,12 @@ arith-reg-reg-back d a b k =
     let hk = arithmetic-lt k in
     let ha = register-lt a in
     let hb = register-lt b in
-    let op : field_of w 0 4 ≡ 10 = unpacked w 0 4 0 10 (registerCode d % 8 + arithmeticCode k % 8 * 8 + registerCode a % 8 * 64 + registerCode b % 8 * 512) (omega arith) (omega arith) (omega arith) in
-    let dst : field_of w 4 3 ≡ registerCode d = unpacked w 4 3 10 (registerCode d) (arithmeticCode k % 8 + registerCode a % 8 * 8 + registerCode b % 8 * 64) (omega arith) (omega arith) (omega arith) in
-    let by : field_of w 7 3 ≡ arithmeticCode k = unpacked w 7 3 (10 + registerCode d % 8 * 16) (arithmeticCode k) (registerCode a % 8 + registerCode b % 8 * 8) (omega arith) (omega arith) (omega arith) in
-    let one : field_of w 10 3 ≡ registerCode a = unpacked w 10 3 (10 + registerCode d % 8 * 16 + arithmeticCode k % 8 * 128) (registerCode a) (registerCode b % 8) (omega arith) (omega arith) (omega arith) in
-    let two : field_of w 13 3 ≡ registerCode b = unpacked w 13 3 (10 + registerCode d % 8 * 16 + arithmeticCode k % 8 * 128 + registerCode a % 8 * 1024) (registerCode b) 0 (omega arith) (omega arith) (omega arith) in
-    low_bits w 10 op ∙ rw (dst, register-back d, by, arithmetic-back k, lt-ltb (arithmeticCode k) 7 hk, one, register-back a, two, register-back b)
+    let op : field_of w 0 4 ≡ 10 = unpacked w 0 4 0 10 (register_code d % 8 + arithmetic_code k % 8 * 8 + register_code a % 8 * 64 + register_code b % 8 * 512) (omega arith) (omega arith) (omega arith) in
+    let dst : field_of w 4 3 ≡ register_code d = unpacked w 4 3 10 (register_code d) (arithmetic_code k % 8 + register_code a % 8 * 8 + register_code b % 8 * 64) (omega arith) (omega arith) (omega arith) in
+    let by : field_of w 7 3 ≡ arithmetic_code k = unpacked w 7 3 (10 + register_code d % 8 * 16) (arithmetic_code k) (register_code a % 8 + register_code b % 8 * 8) (omega arith) (omega arith) (omega arith) in
+    let one : field_of w 10 3 ≡ register_code a = unpacked w 10 3 (10 + register_code d % 8 * 16 + arithmetic_code k % 8 * 128) (register_code a) (register_code b % 8) (omega arith) (omega arith) (omega arith) in
+    let two : field_of w 13 3 ≡ register_code b = unpacked w 13 3 (10 + register_code d % 8 * 16 + arithmetic_code k % 8 * 128 + register_code a % 8 * 1024) (register_code b) 0 (omega arith) (omega arith) (omega arith) in
+    low_bits w 10 op ∙ rw (dst, register-back d, by, arithmetic-back k, lt-ltb (arithmetic_code k) 7 hk, one, register-back a, two, register-back b)
 
 call-ret-back : (r : Bool) (n : ℕ) → n < 2 ^ 11 → decode (encode (CallRet r n)) ≡ is (CallRet r n)
 unfolding arm arms

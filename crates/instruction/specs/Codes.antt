@@ -28,43 +28,43 @@ abbrev pub compares : List CompareOp
 compares = Eq ∷ NotEq ∷ Less ∷ LessEq ∷ Greater ∷ GreaterEq ∷ []
 
 -- what stands at a number; the last of its list where the list ends before it
-abbrev pub registerOf : ℕ → Register
-registerOf n = get_or registers n FLAGS
+abbrev pub register_of : ℕ → Register
+register_of n = get_or registers n FLAGS
 
 abbrev pub arith_of : ℕ → ArithOp
 arith_of n = get_or ariths n ArithOp.Div
 
-abbrev pub arithmeticOf : ℕ → ArithmeticOp
-arithmeticOf n = get_or arithmetics n ArithmeticOp.Sqrt
+abbrev pub arithmetic_of : ℕ → ArithmeticOp
+arithmetic_of n = get_or arithmetics n ArithmeticOp.Sqrt
 
-abbrev pub compareOf : ℕ → CompareOp
-compareOf n = get_or compares n GreaterEq
+abbrev pub compare_of : ℕ → CompareOp
+compare_of n = get_or compares n GreaterEq
 
 -- the number that each stands at; proofs/CodeLaws.antt shows that these are the lists' places
-abbrev pub registerCode : Register → ℕ
-registerCode A = 0
-registerCode B = 1
-registerCode C = 2
-registerCode M = 3
-registerCode SP = 4
-registerCode PC = 5
-registerCode BP = 6
-registerCode FLAGS = 7
+abbrev pub register_code : Register → ℕ
+register_code A = 0
+register_code B = 1
+register_code C = 2
+register_code M = 3
+register_code SP = 4
+register_code PC = 5
+register_code BP = 6
+register_code FLAGS = 7
 
-abbrev pub arithCode : ArithOp → ℕ
-arithCode ArithOp.Add = 0
-arithCode ArithOp.Sub = 1
-arithCode ArithOp.Mul = 2
-arithCode ArithOp.Div = 3
+abbrev pub arith_code : ArithOp → ℕ
+arith_code ArithOp.Add = 0
+arith_code ArithOp.Sub = 1
+arith_code ArithOp.Mul = 2
+arith_code ArithOp.Div = 3
 
-abbrev pub arithmeticCode : ArithmeticOp → ℕ
-arithmeticCode ArithmeticOp.Add = 0
-arithmeticCode ArithmeticOp.Sub = 1
-arithmeticCode ArithmeticOp.Mul = 2
-arithmeticCode ArithmeticOp.Div = 3
-arithmeticCode ArithmeticOp.Mod = 4
-arithmeticCode ArithmeticOp.Exp = 5
-arithmeticCode ArithmeticOp.Sqrt = 6
+abbrev pub arithmetic_code : ArithmeticOp → ℕ
+arithmetic_code ArithmeticOp.Add = 0
+arithmetic_code ArithmeticOp.Sub = 1
+arithmetic_code ArithmeticOp.Mul = 2
+arithmetic_code ArithmeticOp.Div = 3
+arithmetic_code ArithmeticOp.Mod = 4
+arithmetic_code ArithmeticOp.Exp = 5
+arithmetic_code ArithmeticOp.Sqrt = 6
 
 abbrev pub compare_code : CompareOp → ℕ
 compare_code Eq = 0

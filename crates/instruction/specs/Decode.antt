@@ -4,7 +4,7 @@ use Rattle.base.specs.Choice.{cond}
 use Rattle.base.specs.Numbers.{number_of}
 use Rattle.base.specs.Told.{Told, is, no}
 use Rattle.fields.specs.Fields.{field_of}
-use Rattle.instruction.specs.Codes.{registerOf, arith_of, arithmeticOf, compareOf}
+use Rattle.instruction.specs.Codes.{register_of, arith_of, arithmetic_of, compare_of}
 use Rattle.instruction.specs.declared.Register.{Register}
 use Rattle.instruction.specs.declared.Operand.{Operand}
 use Rattle.instruction.specs.declared.Operand.TheVariants.{Reg, Imm}
@@ -19,38 +19,38 @@ told (Ok i) = is i
 told (Refused r) = no (number_of r)
 
 -- the register in the three bits from `at` on
-abbrev pub registerAt : ℕ → ℕ → Register
-registerAt w at = registerOf (field_of w at 3)
+abbrev pub register_at : ℕ → ℕ → Register
+register_at w at = register_of (field_of w at 3)
 
 abbrev pub bit_at : ℕ → ℕ → Bool
 bit_at w at = eqb (field_of w at 1) 1
 
 -- bit `at` set: the register in the three bits after it; else the immediate in the `width` bits after it
 abbrev pub operand_at : ℕ → ℕ → ℕ → Operand
-operand_at w at width = cond (bit_at w at) (Reg (registerAt w (at + 1))) (Imm (field_of w (at + 1) width))
+operand_at w at width = cond (bit_at w at) (Reg (register_at w (at + 1))) (Imm (field_of w (at + 1) width))
 
 -- 5 in register mode is a Jmp
-abbrev pub jumpsAlways : Operand → Bool
-jumpsAlways (Reg r) = true
-jumpsAlways (Imm v) = false
+abbrev pub jumps_always : Operand → Bool
+jumps_always (Reg r) = true
+jumps_always (Imm v) = false
 
 abbrev pub conditional : Operand → Instruction
-conditional o = cond (jumpsAlways o) (Jmp o) (CondJmp o)
+conditional o = cond (jumps_always o) (Jmp o) (CondJmp o)
 
 -- the arms by the low four bits, 0 to 11; compare 6 and 7 are refused with 5, operator 7 of ArithRegReg with 6
 unfoldable pub arms : ℕ → List (Told Instruction)
 arms w =
     is Noop
-    ∷ is (Mov (registerAt w 4) (operand_at w 7 8))
-    ∷ is (MovShift (registerAt w 4) (field_of w 7 3) (bit_at w 10) (field_of w 11 5))
-    ∷ is (Arith (registerAt w 4) (operand_at w 9 6) (arith_of (field_of w 7 2)))
-    ∷ is (LdrStr (registerAt w 4) (registerAt w 7) (bit_at w 10) (field_of w 11 5))
+    ∷ is (Mov (register_at w 4) (operand_at w 7 8))
+    ∷ is (MovShift (register_at w 4) (field_of w 7 3) (bit_at w 10) (field_of w 11 5))
+    ∷ is (Arith (register_at w 4) (operand_at w 9 6) (arith_of (field_of w 7 2)))
+    ∷ is (LdrStr (register_at w 4) (register_at w 7) (bit_at w 10) (field_of w 11 5))
     ∷ is (conditional (operand_at w 4 11))
     ∷ is (Jmp (operand_at w 4 11))
-    ∷ cond (ltb (field_of w 7 3) 6) (is (Cmp (registerAt w 4) (operand_at w 10 5) (compareOf (field_of w 7 3)))) (no 5)
-    ∷ is (LdbStb (registerAt w 4) (registerAt w 7) (bit_at w 10) (field_of w 11 5))
-    ∷ is (Cpy (registerAt w 4) (registerAt w 7))
-    ∷ cond (ltb (field_of w 7 3) 7) (is (ArithRegReg (registerAt w 4) (registerAt w 10) (registerAt w 13) (arithmeticOf (field_of w 7 3)))) (no 6)
+    ∷ cond (ltb (field_of w 7 3) 6) (is (Cmp (register_at w 4) (operand_at w 10 5) (compare_of (field_of w 7 3)))) (no 5)
+    ∷ is (LdbStb (register_at w 4) (register_at w 7) (bit_at w 10) (field_of w 11 5))
+    ∷ is (Cpy (register_at w 4) (register_at w 7))
+    ∷ cond (ltb (field_of w 7 3) 7) (is (ArithRegReg (register_at w 4) (register_at w 10) (register_at w 13) (arithmetic_of (field_of w 7 3)))) (no 6)
     ∷ is (CallRet (bit_at w 4) (field_of w 5 11))
     ∷ []
 

@@ -9,6 +9,6 @@ use Rattle.instruction.specs.declared.Instruction.{Instruction}
 use Rattle.instruction.specs.declared.Instruction.TheVariants.{CondJmp}
 use Rattle.instruction.specs.Decode.{operand_at, decode}
 
-unfoldable pub decodeIn : Edition → ℕ → Told Instruction
-decodeIn First w = decode w
-decodeIn Second w = cond (eqb (field_of w 0 4) 5) (is (CondJmp (operand_at w 4 11))) (decode w)
+unfoldable pub decode_in : Edition → ℕ → Told Instruction
+decode_in First w = decode w
+decode_in Second w = cond (eqb (field_of w 0 4) 5) (is (CondJmp (operand_at w 4 11))) (decode w)

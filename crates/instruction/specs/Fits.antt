@@ -1,6 +1,6 @@
 -- A field fits where it does not exceed its width in the table; which form no word says, and which instruction no line says.
 use Rattle.std.specs.Prelude.{ℕ, ◌^◌, Bool, true, false, not, ◌&&◌, ltb, eqb}
-use Rattle.instruction.specs.Decode.{jumpsAlways}
+use Rattle.instruction.specs.Decode.{jumps_always}
 use Rattle.instruction.specs.declared.Operand.{Operand}
 use Rattle.instruction.specs.declared.Operand.TheVariants.{Reg, Imm}
 use Rattle.instruction.specs.declared.Instruction.{Instruction}
@@ -10,19 +10,19 @@ abbrev pub within : ℕ → ℕ → Bool
 within width v = ltb v (2 ^ width)
 
 -- a register has three bits wherever it stands, and eight numbers
-abbrev pub operandFits : ℕ → Operand → Bool
-operandFits width (Reg r) = true
-operandFits width (Imm v) = within width v
+abbrev pub operand_fits : ℕ → Operand → Bool
+operand_fits width (Reg r) = true
+operand_fits width (Imm v) = within width v
 
 abbrev pub fits : Instruction → Bool
 fits Noop = true
-fits (Mov d o) = operandFits 8 o
+fits (Mov d o) = operand_fits 8 o
 fits (MovShift r amount left v) = within 3 amount && within 5 v
-fits (Arith d o k) = operandFits 6 o
+fits (Arith d o k) = operand_fits 6 o
 fits (LdrStr r a store shift) = within 5 shift
-fits (CondJmp o) = operandFits 11 o
-fits (Jmp o) = operandFits 11 o
-fits (Cmp r o k) = operandFits 5 o
+fits (CondJmp o) = operand_fits 11 o
+fits (Jmp o) = operand_fits 11 o
+fits (Cmp r o k) = operand_fits 5 o
 fits (LdbStb r a store shift) = within 5 shift
 fits (Cpy s t) = true
 fits (ArithRegReg d a b k) = true
@@ -35,7 +35,7 @@ decodable (Mov d o) = true
 decodable (MovShift r amount left v) = true
 decodable (Arith d o k) = true
 decodable (LdrStr r a store shift) = true
-decodable (CondJmp o) = not (jumpsAlways o)
+decodable (CondJmp o) = not (jumps_always o)
 decodable (Jmp o) = true
 decodable (Cmp r o k) = true
 decodable (LdbStb r a store shift) = true
@@ -44,9 +44,9 @@ decodable (ArithRegReg d a b k) = true
 decodable (CallRet ret address) = true
 
 -- RET takes no operand
-abbrev pub plainReturn : Bool → ℕ → Bool
-plainReturn true address = eqb address 0
-plainReturn false address = true
+abbrev pub plain_return : Bool → ℕ → Bool
+plain_return true address = eqb address 0
+plain_return false address = true
 
 -- no line says a return with an address; every other instruction whose fields fit is one that a line says
 abbrev pub sayable : Instruction → Bool
@@ -61,4 +61,4 @@ sayable (Cmp r o k) = true
 sayable (LdbStb r a store shift) = true
 sayable (Cpy s t) = true
 sayable (ArithRegReg d a b k) = true
-sayable (CallRet ret address) = plainReturn ret address
+sayable (CallRet ret address) = plain_return ret address

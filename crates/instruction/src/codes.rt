@@ -2,20 +2,20 @@
 // a register's three bits and an Arith operator's two cannot pass it, and the decoder tests the other two first.
 ghost use Rattle.std.specs.Prelude.{◌≡◌, ◌<◌};
 ghost use Rattle.instruction.specs.Codes.{
-  registerOf,
+  register_of,
   arith_of,
-  arithmeticOf,
-  compareOf,
-  registerCode,
-  arithCode,
-  arithmeticCode,
+  arithmetic_of,
+  compare_of,
+  register_code,
+  arith_code,
+  arithmetic_code,
   compare_code,
 };
 
 use crate::{ArithOp, ArithmeticOp, CompareOp, Register};
 
 pub fn register_of(n: u16) -> Register
-    ensures { result ≡ registerOf n }
+    ensures { result ≡ register_of n }
 {
     match n {
         0 => Register::A,
@@ -41,7 +41,7 @@ pub fn arith_of(n: u16) -> ArithOp
 }
 
 pub fn arithmetic_of(n: u16) -> ArithmeticOp
-    ensures { result ≡ arithmeticOf n }
+    ensures { result ≡ arithmetic_of n }
 {
     match n {
         0 => ArithmeticOp::Add,
@@ -55,7 +55,7 @@ pub fn arithmetic_of(n: u16) -> ArithmeticOp
 }
 
 pub fn compare_of(n: u16) -> CompareOp
-    ensures { result ≡ compareOf n }
+    ensures { result ≡ compare_of n }
 {
     match n {
         0 => CompareOp::Eq,
@@ -69,7 +69,7 @@ pub fn compare_of(n: u16) -> CompareOp
 
 // The bound is said apart, for callers that index eight registers.
 pub fn register_code(r: Register) -> u16
-    ensures value { result ≡ registerCode r }
+    ensures value { result ≡ register_code r }
     ensures upper_bound { result < 8 }
 {
     match r {
@@ -85,7 +85,7 @@ pub fn register_code(r: Register) -> u16
 }
 
 pub fn arith_code(k: ArithOp) -> u16
-    ensures { result ≡ arithCode k }
+    ensures { result ≡ arith_code k }
 {
     match k {
         ArithOp::Add => 0,
@@ -96,7 +96,7 @@ pub fn arith_code(k: ArithOp) -> u16
 }
 
 pub fn arithmetic_code(k: ArithmeticOp) -> u16
-    ensures { result ≡ arithmeticCode k }
+    ensures { result ≡ arithmetic_code k }
 {
     match k {
         ArithmeticOp::Add => 0,

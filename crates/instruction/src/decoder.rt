@@ -2,7 +2,7 @@
 // The kinds of field are public for the machine, which acts on a word without making an Instruction of it.
 ghost use Rattle.std.specs.Prelude.{◌≡◌, ◌<◌, ◌≤◌};
 ghost use Rattle.fields.specs.Fields.{field_of};
-ghost use Rattle.instruction.specs.Decode.{told, registerAt, bit_at, operand_at, jumpsAlways, arm, decode};
+ghost use Rattle.instruction.specs.Decode.{told, register_at, bit_at, operand_at, jumps_always, arm, decode};
 
 use crate::codes::{arith_of, arithmetic_of, compare_of, register_of};
 use crate::{Decoded, Instruction, Operand, Register};
@@ -12,7 +12,7 @@ use fields::field;
 // The register in the three bits from `at` on.
 pub fn register_at(w: u16, at: usize) -> Register
     requires { at < 16 }
-    ensures { result ≡ registerAt w at }
+    ensures { result ≡ register_at w at }
 {
     register_of(field(w, at, 3))
 }
@@ -85,7 +85,7 @@ fn ldr_str(w: u16) -> Decoded
 
 // 5 in register mode is a Jmp, as document 01 has it: no word says a CondJmp to a register. Only this function knows.
 pub fn jumps_always(o: Operand) -> bool
-    ensures { result ≡ jumpsAlways o }
+    ensures { result ≡ jumps_always o }
 {
     match o {
         Operand::Reg(_) => true,

@@ -2,7 +2,7 @@
 // The sums are those of the definition, term by term.
 ghost use Rattle.std.specs.Prelude.{◌≡◌, ◌+◌, ◌<◌};
 ghost use Rattle.fields.specs.Fields.{place_of};
-ghost use Rattle.instruction.specs.Encode.{registerIn, bit, mode, value, encode};
+ghost use Rattle.instruction.specs.Encode.{register_in, bit, mode, value, encode};
 ghost use Rattle.instruction.specs.declared.Instruction.TheVariants.{Mov, MovShift, Arith, ArithRegReg, Cpy, Cmp, CallRet};
 
 use crate::codes::{arith_code, arithmetic_code, compare_code, register_code};
@@ -62,7 +62,7 @@ fn arith_word(d: Register, o: Operand, k: ArithOp) -> u16
 // LdrStr and LdbStb have the same fields and differ in their low four bits, 4 and 8.
 fn transfer_word(op: u16, r: Register, a: Register, store: bool, shift: u8) -> u16
     requires { op < 16 }
-    ensures { result ≡ op + registerIn r 4 + registerIn a 7 + place_of (bit store) 10 1 + place_of shift 11 5 }
+    ensures { result ≡ op + register_in r 4 + register_in a 7 + place_of (bit store) 10 1 + place_of shift 11 5 }
 {
     op + place(register_code(r), 4, 3)
         + place(register_code(a), 7, 3)

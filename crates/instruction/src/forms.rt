@@ -1,6 +1,6 @@
 // Whether decoding ever answers with an instruction, and whether a line says it.
 ghost use Rattle.std.specs.Prelude.{◌≡◌};
-ghost use Rattle.instruction.specs.Fits.{decodable, plainReturn, sayable};
+ghost use Rattle.instruction.specs.Fits.{decodable, plain_return, sayable};
 
 use crate::Instruction;
 use crate::decoder::jumps_always;
@@ -26,7 +26,7 @@ pub fn decodable(i: Instruction) -> bool
 }
 
 fn plain_return(ret: bool, address: u16) -> bool
-    ensures { result ≡ plainReturn ret address }
+    ensures { result ≡ plain_return ret address }
 {
     if ret { address == 0 } else { true }
 }

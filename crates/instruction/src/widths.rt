@@ -1,6 +1,6 @@
 // Whether an instruction's numbers fit the widths that the table gives their fields.
 ghost use Rattle.std.specs.Prelude.{◌&&◌, ◌≡◌, ◌<◌};
-ghost use Rattle.instruction.specs.Fits.{within, operandFits, fits};
+ghost use Rattle.instruction.specs.Fits.{within, operand_fits, fits};
 
 use crate::{Instruction, Operand};
 use fields::power_of_two;
@@ -15,7 +15,7 @@ fn has_width(v: u16, width: usize) -> bool
 // A register fits wherever it stands.
 fn operand_fits(o: Operand, width: usize) -> bool
     requires { width < 16 }
-    ensures { result ≡ operandFits width o }
+    ensures { result ≡ operand_fits width o }
 {
     match o {
         Operand::Reg(_) => true,

@@ -11,16 +11,16 @@ use borrow.Author.Tests.{eqb-true, eqb-false}
 use native.Mathlib.Omega.{arith}
 use Rattle.base.specs.Choice.{cond}
 use Rattle.machine.specs.Step as machine
-use Rattle.records.specs.Slots.{room, recordAt, filled, slotAfter, slotBefore}
+use Rattle.records.specs.Slots.{room, record_at, filled, slot_after, slot_before}
 use Rattle.records.specs.declared.Record.{Record}
 use Rattle.records.proofs.Laws.{filled-own, filled-other}
 use Rattle.records.proofs.Ring.{Behind, behind-before, behind-other, before-after, before-lt}
-use Rattle.journal.specs.States.{Whole, validWhole}
-use Rattle.journal.specs.Step.{isAccepted, moved, step}
-use Rattle.journal.specs.Back.{Backed, backed, newest, undone, stepBack}
-use Rattle.journal.specs.Demand.{Move, Step, Back, afterMove, walk, steps, backs, Place, at, stepOn, alone, Starts, Demand, Demand3}
+use Rattle.journal.specs.States.{Whole, valid_whole}
+use Rattle.journal.specs.Step.{is_accepted, moved, step}
+use Rattle.journal.specs.Back.{Backed, backed, newest, undone, step_back}
+use Rattle.journal.specs.Demand.{Move, Step, Back, after_move, walk, steps, backs, Place, at, step_on, alone, Starts, Demand, Demand3}
 use Rattle.journal.proofs.StateLaws.{parts, next-slot}
-use Rattle.journal.proofs.StepLaws.{own, ownRecord, withRecord, accepted-valid, step_kept, own-accepted, own-eight, accepted-step, filled-room, step_room, step-eight-kept, step-valid}
+use Rattle.journal.proofs.StepLaws.{own, own_record, with_record, accepted-valid, step_kept, own-accepted, own-eight, accepted-step, filled-room, step_room, step-eight-kept, step-valid}
 use Rattle.journal.proofs.UndoLaws.{Point, point, Undoes, record-undoes}
 use Rattle.journal.proofs.BackLaws.{fitting, back_none, back-undone, back-kept, back-spends, back-journal, back-eight-kept, back-valid}
 
@@ -35,7 +35,7 @@ stands w = point w.state.machine w.bytes
 Holds : List ℕ → ℕ → ℕ → ℕ → Point → List Point → Type 0
 Holds j d p zero t h = Unit {0}
 Holds j d p (suc k) t [] = ⊥
-Holds j d p (suc k) t (u ∷ h) = Undoes (recordAt j (slotBefore d p)) t u × Holds j d (slotBefore d p) k u h
+Holds j d p (suc k) t (u ∷ h) = Undoes (record_at j (slot_before d p)) t u × Holds j d (slot_before d p) k u h
 
 -- fewer of them
 holds-less : (j : List ℕ) (d p l k : ℕ) (t : Point) (h : List Point) → l ≤ k → Holds j d p k t h → Holds j d p l t h
@@ -43,7 +43,7 @@ unfolding Holds
 holds-less j d p zero k t h le H = tt
 holds-less j d p (suc l) zero t h le H = absurd (omega arith)
 holds-less j d p (suc l) (suc k) t [] le H = H
-holds-less j d p (suc l) (suc k) t (u ∷ h) le H = (H.0, holds-less j d (slotBefore d p) l k u h (omega arith) H.1)
+holds-less j d p (suc l) (suc k) t (u ∷ h) le H = (H.0, holds-less j d (slot_before d p) l k u h (omega arith) H.1)
 
 module _ (j : List ℕ) (x : ℕ) (r : Record) (e : length r.registers ≡ 8) (hx : x < room j) where
   -- a slot that is none of theirs is filled: p lies i slots before x
@@ -55,7 +55,7 @@ module _ (j : List ℕ) (x : ℕ) (r : Record) (e : length r.registers ≡ 8) (h
   holds-filled (suc k) p i t (u ∷ h) hp hi b H =
       let z : 0 < room j = omega arith in
       let lt : suc i < room j = omega arith in
-      let q = slotBefore (room j) p in
+      let q = slot_before (room j) p in
       let c = behind-before (room j) x i p hx hp lt b in
       let s = filled-other j x r e hx q (behind-other (room j) x i q lt c) in (
         subst⁻¹ (λ (y : Record). Undoes y t u) s H.0,
@@ -64,7 +64,7 @@ module _ (j : List ℕ) (x : ℕ) (r : Record) (e : length r.registers ≡ 8) (h
 
   -- the record of a step is the newest one, and of those before it at most d - 1 are held
   holds-newest : (k : ℕ) (s t : Point) (h : List Point) → Undoes r t s → Holds j (room j) x k s h
-      → Holds (filled j x r) (room j) (slotAfter (room j) x) (min (k + 1) (room j)) t (s ∷ h)
+      → Holds (filled j x r) (room j) (slot_after (room j) x) (min (k + 1) (room j)) t (s ∷ h)
   unfolding Holds
   holds-newest k s t h v H =
       let l = min k (room j - 1) in
@@ -83,7 +83,7 @@ module _ (j : List ℕ) (x : ℕ) (r : Record) (e : length r.registers ≡ 8) (h
 Leads : Point → Point → Type 0
 Leads u t =
     let a = machine.step u.machine u.bytes in
-    (isAccepted a.answer ≡ true) × (point a.machine a.bytes ≡ t)
+    (is_accepted a.answer ≡ true) × (point a.machine a.bytes ≡ t)
 
 Chain : Point → List Point → Point → Type 0
 Chain s [] t = s ≡ t
@@ -92,8 +92,8 @@ Chain s (u ∷ h) t = Leads u t × Chain s h u
 abbrev placed : Point → Place
 placed t = at t.machine t.bytes
 
-leads-onward : (u t : Point) → Leads u t → stepOn (placed u) ≡ placed t
-unfolding Leads stepOn
+leads-onward : (u t : Point) → Leads u t → step_on (placed u) ≡ placed t
+unfolding Leads step_on
 leads-onward u t l = rw l.0 (ap placed l.1)
 
 chain-alone : (s : Point) (h : List Point) (t : Point) → Chain s h t → alone (length h) s.machine s.bytes ≡ placed t
@@ -110,14 +110,14 @@ Held w h = Holds w.journal (room w.journal) w.state.next w.state.held (stands w)
 record Inv (s : Point) (d : ℕ) (w : Whole) (h : List Point) : Type 0 where
   size : room w.journal ≡ d
   eight : length w.state.machine.registers.value ≡ 8
-  valid : validWhole w ≡ true
+  valid : valid_whole w ≡ true
   chain : Chain s h (stands w)
   holds : Held w h
 
 module _ (s : Point) (d : ℕ) (w : Whole) (h : List Point) (v : Inv s d w h) where
   -- ---- an accepted step adds a record
 
-  step-leads : isAccepted (step w).answer ≡ true → Leads (stands w) (stands (step w).whole)
+  step-leads : is_accepted (step w).answer ≡ true → Leads (stands w) (stands (step w).whole)
   unfolding Leads
   step-leads e = (
     own-accepted w e,
@@ -131,16 +131,16 @@ module _ (s : Point) (d : ℕ) (w : Whole) (h : List Point) (v : Inv s d w h) wh
       let e : w.state.held ≡ 0 = omega (arith, z, (parts w v.valid).held) in
       rw e tt
 
-  held-some : 0 < room w.journal → Held (withRecord w) (stands w ∷ h)
+  held-some : 0 < room w.journal → Held (with_record w) (stands w ∷ h)
   held-some n =
       let j = w.journal in
       let x = w.state.next in
       let e = own-eight w v.eight in
       let t = point (own w).machine (own w).bytes in
       rw (filled-room w v.eight v.valid n)
-      (holds-newest j x (ownRecord w) e (next-slot w v.valid n) w.state.held (stands w) t h (record-undoes w v.valid) v.holds)
+      (holds-newest j x (own_record w) e (next-slot w v.valid n) w.state.held (stands w) t h (record-undoes w v.valid) v.holds)
 
-  inv-step : isAccepted (step w).answer ≡ true → Inv s d (step w).whole (stands w ∷ h)
+  inv-step : is_accepted (step w).answer ≡ true → Inv s d (step w).whole (stands w ∷ h)
   unfolding Chain
   inv-step e = record {
     size = step_room w v.eight ∙ v.size;
@@ -156,7 +156,7 @@ module _ (s : Point) (d : ℕ) (w : Whole) (h : List Point) (v : Inv s d w h) wh
     past : List Point
     longer : length h ≡ suc (length past)
     fits : fitting w (newest w) ≡ true
-    inv : Inv s d (stepBack w).whole past
+    inv : Inv s d (step_back w).whole past
 
   back-stands : (u : Point) → Undoes (newest w) (stands w) u → stands (undone w (newest w)) ≡ u
   unfolding undone
@@ -164,12 +164,12 @@ module _ (s : Point) (d : ℕ) (w : Whole) (h : List Point) (v : Inv s d w h) wh
 
   -- one less
   back-held : (u : Point) (past : List Point) → Undoes (newest w) (stands w) u
-      → Holds w.journal (room w.journal) (slotBefore (room w.journal) w.state.next) (w.state.held - 1) u past
+      → Holds w.journal (room w.journal) (slot_before (room w.journal) w.state.next) (w.state.held - 1) u past
       → Held (undone w (newest w)) past
   unfolding undone
   back-held u past k H =
       let d = room w.journal in
-      let p = slotBefore d w.state.next in
+      let p = slot_before d w.state.next in
       subst⁻¹ (λ (t : Point). Holds w.journal d p (w.state.held - 1) t past) (back-stands u k) H
 
   inv-back : (w.state.held ≡ 0 → ⊥) → Backs
@@ -183,7 +183,7 @@ module _ (s : Point) (d : ℕ) (w : Whole) (h : List Point) (v : Inv s d w h) wh
           → Holds w.journal (room w.journal) w.state.next (suc (w.state.held - 1)) (stands w) g → Backs
       go [] l c H = absurd H
       go (u ∷ past) l c H =
-          let q : stepBack w ≡ backed 0 (undone w (newest w)) = back-undone w v.valid n H.0.fitting in
+          let q : step_back w ≡ backed 0 (undone w (newest w)) = back-undone w v.valid n H.0.fitting in
           let k : stands (undone w (newest w)) ≡ u = back-stands u H.0 in
           record {
             past = past;
@@ -205,24 +205,24 @@ module _ (s : Point) (d : ℕ) (w : Whole) (h : List Point) (v : Inv s d w h) wh
     inv : Inv s d x past
     count : length past + fewer ≡ length h + more
 
-  step-moves : Moved (step w).whole (cond (isAccepted (step w).answer) 1 0) 0
-  step-moves = go (isAccepted (step w).answer) refl
+  step-moves : Moved (step w).whole (cond (is_accepted (step w).answer) 1 0) 0
+  step-moves = go (is_accepted (step w).answer) refl
     where
-      go : (t : Bool) → isAccepted (step w).answer ≡ t → Moved (step w).whole (cond t 1 0) 0
+      go : (t : Bool) → is_accepted (step w).answer ≡ t → Moved (step w).whole (cond t 1 0) 0
       go true e = record { past = stands w ∷ h; inv = inv-step e; count = omega arith }
       go false e = record { past = h; inv = subst⁻¹ (λ (x : Whole). Inv s d x h) (step_kept w e) v; count = refl }
 
-  back-moves : Moved (stepBack w).whole 0 (cond (eqb (stepBack w).number 0) 1 0)
+  back-moves : Moved (step_back w).whole 0 (cond (eqb (step_back w).number 0) 1 0)
   back-moves = go (eqb w.state.held 0) refl
     where
-      done : (n : w.state.held ≡ 0 → ⊥) → Backs → Moved (stepBack w).whole 0 (cond (eqb (stepBack w).number 0) 1 0)
+      done : (n : w.state.held ≡ 0 → ⊥) → Backs → Moved (step_back w).whole 0 (cond (eqb (step_back w).number 0) 1 0)
       done n k =
-          let z : (stepBack w).number ≡ 0 = ap (λ (x : Backed). x.number) (back-undone w v.valid n k.fits) in
+          let z : (step_back w).number ≡ 0 = ap (λ (x : Backed). x.number) (back-undone w v.valid n k.fits) in
           record { past = k.past; inv = k.inv; count = rw z (omega (arith, k.longer)) }
 
-      go : (t : Bool) → eqb w.state.held 0 ≡ t → Moved (stepBack w).whole 0 (cond (eqb (stepBack w).number 0) 1 0)
+      go : (t : Bool) → eqb w.state.held 0 ≡ t → Moved (step_back w).whole 0 (cond (eqb (step_back w).number 0) 1 0)
       go true e =
-          let q : stepBack w ≡ backed 10 w = back_none w v.valid (eqb-true w.state.held 0 e) in
+          let q : step_back w ≡ backed 10 w = back_none w v.valid (eqb-true w.state.held 0 e) in
           subst⁻¹ (λ (x : Backed). Moved x.whole 0 (cond (eqb x.number 0) 1 0)) q (record { past = h; inv = v; count = refl })
       go false e = let n = eqb-false w.state.held 0 e in done n (inv-back n)
 
@@ -234,7 +234,7 @@ record Ends (s : Point) (d n : ℕ) (w : Whole) (moves : List Move) : Type 0 whe
   count : length past + backs w moves ≡ n + steps w moves
 
 walk_ends : (s : Point) (d : ℕ) (moves : List Move) (w : Whole) (h : List Point) → Inv s d w h → Ends s d (length h) w moves
-unfolding walk afterMove steps backs
+unfolding walk after_move steps backs
 walk_ends s d [] w h v = record { past = h; inv = v; count = refl }
 walk_ends s d (Step ∷ rest) w h v =
     let k = step-moves s d w h v in
@@ -242,7 +242,7 @@ walk_ends s d (Step ∷ rest) w h v =
     record { past = e.past; inv = e.inv; count = omega (arith, k.count, e.count) }
 walk_ends s d (Back ∷ rest) w h v =
     let k = back-moves s d w h v in
-    let e = walk_ends s d rest (stepBack w).whole k.past k.inv in
+    let e = walk_ends s d rest (step_back w).whole k.past k.inv in
     record { past = e.past; inv = e.inv; count = omega (arith, k.count, e.count) }
 
 -- ---- the demand
@@ -252,7 +252,7 @@ unfolding Chain Holds
 starts w a = record { size = refl; eight = a.eight; valid = a.valid; chain = refl; holds = rw a.empty tt }
 
 -- an accepted step adds a record, up to the room
-held_after : (w : Whole) → isAccepted (step w).answer ≡ true
+held_after : (w : Whole) → is_accepted (step w).answer ≡ true
     → (step w).whole.state.held ≡ min (w.state.held + 1) (room w.journal)
 held_after w e =
     accepted-step w e (λ (x : Whole). x.state.held ≡ min (w.state.held + 1) (room w.journal))

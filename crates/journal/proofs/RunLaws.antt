@@ -10,10 +10,10 @@ use Rattle.base.specs.Told.{Told, is, no}
 use Rattle.base.proofs.ToldLaws.{is-not-no}
 use Rattle.base.proofs.Tests.{clash}
 use Rattle.machine.specs.Answers.{Reply, Continue, Debug, Stop}
-use Rattle.journal.specs.States.{Whole, validWhole}
-use Rattle.journal.specs.Step.{Result, isAccepted, step}
-use Rattle.journal.specs.Run.{Ran, ran, oneMore, goesOn, counts, repeated, run}
-use Rattle.journal.specs.Demand.{Step, afterMove, walk, steps}
+use Rattle.journal.specs.States.{Whole, valid_whole}
+use Rattle.journal.specs.Step.{Result, is_accepted, step}
+use Rattle.journal.specs.Run.{Ran, ran, one_more, goes_on, counts, repeated, run}
+use Rattle.journal.specs.Demand.{Step, after_move, walk, steps}
 use Rattle.journal.proofs.WalkLaws.{walk_none}
 use Rattle.journal.proofs.StepLaws.{invalid-step, step_kept, step-eight-kept, step-valid}
 
@@ -25,11 +25,11 @@ pub record Walks (w : Whole) (n : ℕ) (r : Ran) : Type 0 where
   -- it goes on to the n-th step while the answer is Continue
   pub full : r.answer ≡ is Continue → r.count ≡ n
   -- and stops where a step is not accepted, with that step's answer
-  pub stops : isAccepted r.answer ≡ false → (step r.whole).answer ≡ r.answer
+  pub stops : is_accepted r.answer ≡ false → (step r.whole).answer ≡ r.answer
 
 -- no step was accepted
 none-walks : (w : Whole) (n : ℕ) (a : Told Reply) (v : Whole) → v ≡ w → (a ≡ is Continue → 0 ≡ n)
-    → (isAccepted a ≡ false → (step w).answer ≡ a) → Walks w n (ran a 0 v)
+    → (is_accepted a ≡ false → (step w).answer ≡ a) → Walks w n (ran a 0 v)
 unfolding walk steps
 none-walks w n a v e f g = record {
   most = omega arith;
@@ -41,11 +41,11 @@ none-walks w n a v e f g = record {
 
 -- what a step's answer leads to
 abbrev onward : Told Reply → Whole → Ran → Ran
-onward a w rest = cond (goesOn a) (oneMore rest) (ran a (counts a) w)
+onward a w rest = cond (goes_on a) (one_more rest) (ran a (counts a) w)
 
 onward-walks : (w : Whole) (n : ℕ) (a : Told Reply) → (step w).answer ≡ a → (rest : Ran) → Walks (step w).whole n rest
     → Walks w (suc n) (onward a (step w).whole rest)
-unfolding goesOn counts walk afterMove steps isAccepted
+unfolding goes_on counts walk after_move steps is_accepted
 onward-walks w n (is Continue) e rest k = record {
   most = omega (arith, k.most);
   whole = k.whole;
@@ -61,12 +61,12 @@ onward-walks w n (is Debug) e rest k = record {
   stops = λ f. clash (sym f);
 }
 onward-walks w n (is Stop) e rest k =
-    none-walks w (suc n) (is Stop) (step w).whole (step_kept w (ap isAccepted e)) (λ f. clash cc) (λ f. e)
+    none-walks w (suc n) (is Stop) (step w).whole (step_kept w (ap is_accepted e)) (λ f. clash cc) (λ f. e)
 onward-walks w n (no x) e rest k =
-    none-walks w (suc n) (no x) (step w).whole (step_kept w (ap isAccepted e)) (λ f. is-not-no Continue x (sym f)) (λ f. e)
+    none-walks w (suc n) (no x) (step w).whole (step_kept w (ap is_accepted e)) (λ f. is-not-no Continue x (sym f)) (λ f. e)
 
 repeated-walks : (n : ℕ) (w : Whole) → Walks w n (repeated n w)
-unfolding repeated isAccepted
+unfolding repeated is_accepted
 repeated-walks zero w = none-walks w 0 (is Continue) w refl (λ f. refl) (λ f. clash (sym f))
 repeated-walks (suc n) w =
     onward-walks w n (step w).answer refl (repeated n (step w).whole) (repeated-walks n (step w).whole)
@@ -74,18 +74,18 @@ repeated-walks (suc n) w =
 -- ---- a run, valid state or not
 
 module _ (n : ℕ) (w : Whole) where
-  pub invalid-run : validWhole w ≡ false → run n w ≡ ran (no 1) 0 w
+  pub invalid-run : valid_whole w ≡ false → run n w ≡ ran (no 1) 0 w
   unfolding run
   invalid-run h = rw h
 
-  pub valid-run : validWhole w ≡ true → run n w ≡ repeated n w
+  pub valid-run : valid_whole w ≡ true → run n w ≡ repeated n w
   unfolding run
   valid-run h = rw h
 
   pub run-walks : Walks w n (run n w)
-  run-walks = go (validWhole w) refl
+  run-walks = go (valid_whole w) refl
     where
-      go : (t : Bool) → validWhole w ≡ t → Walks w n (run n w)
+      go : (t : Bool) → valid_whole w ≡ t → Walks w n (run n w)
       go true h = subst⁻¹ (Walks w n) (valid-run h) (repeated-walks n w)
       go false h =
           subst⁻¹ (Walks w n) (invalid-run h)
@@ -108,10 +108,10 @@ module _ (n : ℕ) (w : Whole) where
 
 pub record Good (w : Whole) : Type 0 where
   pub eight : length w.state.machine.registers.value ≡ 8
-  pub valid : validWhole w ≡ true
+  pub valid : valid_whole w ≡ true
 
 walk-good : (n : ℕ) (w : Whole) → Good w → Good (walk w (replicate n Step))
-unfolding walk afterMove
+unfolding walk after_move
 walk-good zero w g = g
 walk-good (suc n) w g =
     walk-good n (step w).whole (record { eight = step-eight-kept w g.eight; valid = step-valid w g.eight g.valid })

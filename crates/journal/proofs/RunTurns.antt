@@ -7,10 +7,10 @@ use Rattle.base.specs.Choice.{cond}
 use Rattle.base.specs.Told.{Told, is, no}
 use Rattle.base.proofs.Tests.{clash}
 use Rattle.machine.specs.Answers.{Reply, Continue, Debug, Stop}
-use Rattle.journal.specs.States.{Whole, validWhole}
+use Rattle.journal.specs.States.{Whole, valid_whole}
 use Rattle.journal.specs.Step.{Result, result, step}
 use Rattle.journal.proofs.StepLaws.{invalid-step}
-use Rattle.journal.specs.Run.{Ran, ran, oneMore, goesOn, counts, repeated, run}
+use Rattle.journal.specs.Run.{Ran, ran, one_more, goes_on, counts, repeated, run}
 
 -- k accepted steps, and then r
 abbrev pub counted : ℕ → Ran → Ran
@@ -33,27 +33,27 @@ module _ (n k : ℕ) (w v : Whole) (i : counted k (repeated (n - k) w) ≡ repea
 
   module _ (h : k < n) (a : Told Reply) (u : Whole) (e : result a u ≡ step w) where
     -- the step, and what is left after it
-    stepped : counted k (cond (goesOn a) (oneMore (repeated (n - (k + 1)) u)) (ran a (counts a) u)) ≡ repeated n v
+    stepped : counted k (cond (goes_on a) (one_more (repeated (n - (k + 1)) u)) (ran a (counts a) u)) ≡ repeated n v
     unfolding repeated
     stepped =
         let f : n - k ≡ suc (n - (k + 1)) = omega arith in
-        ap (λ (x : Result). counted k (cond (goesOn x.answer) (oneMore (repeated (n - (k + 1)) x.whole)) (ran x.answer (counts x.answer) x.whole))) e
+        ap (λ (x : Result). counted k (cond (goes_on x.answer) (one_more (repeated (n - (k + 1)) x.whole)) (ran x.answer (counts x.answer) x.whole))) e
         ∙ sym (ap (λ (x : ℕ). counted k (repeated x w)) f) ∙ i
 
     -- a run that goes on, and one that ends with this step
-    pub goes_on : goesOn a ≡ true → counted (k + 1) (repeated (n - (k + 1)) u) ≡ repeated n v
-    goes_on g =
+    pub goes-on : goes_on a ≡ true → counted (k + 1) (repeated (n - (k + 1)) u) ≡ repeated n v
+    goes-on g =
         let r = repeated (n - (k + 1)) u in
         let f : k + 1 + r.count ≡ k + suc r.count = omega arith in
-        ap (λ (x : ℕ). ran r.answer x r.whole) f ∙ sym (ap (λ (t : Bool). counted k (cond t (oneMore r) (ran a (counts a) u))) g) ∙ stepped
+        ap (λ (x : ℕ). ran r.answer x r.whole) f ∙ sym (ap (λ (t : Bool). counted k (cond t (one_more r) (ran a (counts a) u))) g) ∙ stepped
 
-    pub ends : goesOn a ≡ false → ran a (k + counts a) u ≡ repeated n v
-    ends g = sym (ap (λ (t : Bool). counted k (cond t (oneMore (repeated (n - (k + 1)) u)) (ran a (counts a) u))) g) ∙ stepped
+    pub ends : goes_on a ≡ false → ran a (k + counts a) u ≡ repeated n v
+    ends g = sym (ap (λ (t : Bool). counted k (cond t (one_more (repeated (n - (k + 1)) u)) (ran a (counts a) u))) g) ∙ stepped
 
 -- ---- a run of one is a step
 
-going-continues : (a : Told Reply) → goesOn a ≡ true → a ≡ is Continue
-unfolding goesOn
+going-continues : (a : Told Reply) → goes_on a ≡ true → a ≡ is Continue
+unfolding goes_on
 going-continues (is Continue) e = refl
 going-continues (is Debug) e = clash e
 going-continues (is Stop) e = clash e
@@ -61,9 +61,9 @@ going-continues (no n) e = clash e
 
 pub run-one : (w : Whole) → result (run 1 w).answer (run 1 w).whole ≡ step w
 unfolding run repeated
-run-one w = go (validWhole w) refl (goesOn (step w).answer) refl
+run-one w = go (valid_whole w) refl (goes_on (step w).answer) refl
   where
-    go : (v : Bool) → validWhole w ≡ v → (g : Bool) → goesOn (step w).answer ≡ g → result (run 1 w).answer (run 1 w).whole ≡ step w
+    go : (v : Bool) → valid_whole w ≡ v → (g : Bool) → goes_on (step w).answer ≡ g → result (run 1 w).answer (run 1 w).whole ≡ step w
     go false v g e = rw v (sym (invalid-step w v))
     go true v true e = rw (v, e) (ap (λ (a : Told Reply). result a (step w).whole) (sym (going-continues (step w).answer e)))
     go true v false e = rw (v, e)

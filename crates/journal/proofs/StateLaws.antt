@@ -10,22 +10,22 @@ use Rattle.base.proofs.Tests.{first, second, third}
 use Rattle.machine.specs.States as machine
 use Rattle.machine.specs.declared.Machine.{Machine}
 use Rattle.records.specs.Slots.{room}
-use Rattle.journal.specs.States.{Whole, state, nextIn, valid, validWhole}
+use Rattle.journal.specs.States.{Whole, state, next_in, valid, valid_whole}
 use Rattle.journal.specs.declared.State.{State}
 
 -- ---- next, in a journal with room for d
 
 -- one test for each kind of journal, as the code has it
-next-empty : (n d : ℕ) → d ≡ 0 → nextIn n d ≡ eqb n 0
-unfolding nextIn
-next-empty n d e = ap (nextIn n) e ∙ (let l : ltb n 0 ≡ false = le-ltb n 0 (omega arith) in rw l (and-true (eqb n 0)))
+next-empty : (n d : ℕ) → d ≡ 0 → next_in n d ≡ eqb n 0
+unfolding next_in
+next-empty n d e = ap (next_in n) e ∙ (let l : ltb n 0 ≡ false = le-ltb n 0 (omega arith) in rw l (and-true (eqb n 0)))
   where
     and-true : (t : Bool) → (t && true) ≡ t
     and-true true = refl
     and-true false = refl
 
-next-room : (n d : ℕ) → (d ≡ 0 → ⊥) → nextIn n d ≡ ltb n d
-unfolding nextIn
+next-room : (n d : ℕ) → (d ≡ 0 → ⊥) → next_in n d ≡ ltb n d
+unfolding next_in
 next-room n d h = rw (ne_eqb d 0 h) (or-none (ltb n d) (eqb n 0))
   where
     or-none : (t u : Bool) → (t || (u && false)) ≡ t
@@ -34,11 +34,11 @@ next-room n d h = rw (ne_eqb d 0 h) (or-none (ltb n d) (eqb n 0))
     or-none false false = refl
 
 -- both in one
-next-lt : (n d : ℕ) → nextIn n d ≡ true → n < max 1 d
+next-lt : (n d : ℕ) → next_in n d ≡ true → n < max 1 d
 next-lt n zero h = let e : n ≡ 0 = eqb-true n 0 (sym (next-empty n 0 refl) ∙ h) in omega arith
 next-lt n (suc d) h = let e : n < suc d = ltb-true n (suc d) (sym (next-room n (suc d) (λ z. omega arith)) ∙ h) in omega arith
 
-next-in : (n d : ℕ) → n < max 1 d → nextIn n d ≡ true
+next-in : (n d : ℕ) → n < max 1 d → next_in n d ≡ true
 next-in n zero h = next-empty n 0 refl ∙ eq-eqb n 0 (omega arith)
 next-in n (suc d) h = next-room n (suc d) (λ z. omega arith) ∙ lt-ltb n (suc d) (omega arith)
 
@@ -55,14 +55,14 @@ module _ (s : State) (dev journal : List ℕ) where
   unfolding valid
   invalid-held h =
       let l : leb s.held (room journal) ≡ false = lt-leb s.held (room journal) h in
-      rw l (no_second (machine.valid s.machine dev) (nextIn s.next (room journal)))
+      rw l (no_second (machine.valid s.machine dev) (next_in s.next (room journal)))
     where
       no_second : (t u : Bool) → (t && false && u) ≡ false
       no_second true u = refl
       no_second false u = refl
 
   module _ (v : machine.valid s.machine dev ≡ true) (h : s.held ≤ room journal) where
-    next-decides : valid s dev journal ≡ nextIn s.next (room journal)
+    next-decides : valid s dev journal ≡ next_in s.next (room journal)
     unfolding valid
     next-decides = let l : leb s.held (room journal) ≡ true = le-leb s.held (room journal) h in rw (v, l)
 
@@ -85,7 +85,7 @@ module _ (s : State) (dev journal : List ℕ) where
     count = leb s.held (room journal)
 
     abbrev slot : Bool
-    slot = nextIn s.next (room journal)
+    slot = next_in s.next (room journal)
 
     all_three : (tables && count && slot) ≡ true
     unfolding valid
@@ -120,16 +120,16 @@ pub record Parts (w : Whole) : Type 0 where
   pub next : w.state.next < max 1 (room w.journal)
 
 module _ (w : Whole) where
-  pub parts : validWhole w ≡ true → Parts w
+  pub parts : valid_whole w ≡ true → Parts w
   parts v = record {
     tables = valid-machine w.state w.bytes.dev w.journal v;
     held = valid-held w.state w.bytes.dev w.journal v;
     next = valid-next w.state w.bytes.dev w.journal v;
   }
 
-  pub together : Parts w → validWhole w ≡ true
+  pub together : Parts w → valid_whole w ≡ true
   together p = valid-of w.state w.bytes.dev w.journal p.tables p.held p.next
 
   -- with room, the next record has a slot
-  pub next-slot : validWhole w ≡ true → 0 < room w.journal → w.state.next < room w.journal
+  pub next-slot : valid_whole w ≡ true → 0 < room w.journal → w.state.next < room w.journal
   next-slot v n = omega (arith, (parts v).next)

@@ -19,31 +19,31 @@ use Rattle.machine.proofs.Laws as machine-laws
 use Rattle.memory.specs.Bytes.{Lent}
 use Rattle.memory.specs.declared.Changes.{Changes}
 use Rattle.memory.specs.declared.Changes.TheVariants.{Nothing, One, Two}
-use Rattle.records.specs.Slots.{room, filled, slotAfter}
+use Rattle.records.specs.Slots.{room, filled, slot_after}
 use Rattle.records.specs.declared.Record.{Record}
 use Rattle.records.proofs.Laws.{room-filled}
 use Rattle.records.proofs.Ring.{after-lt}
-use Rattle.journal.specs.States.{Whole, whole, state, validWhole}
-use Rattle.journal.specs.Step.{Result, result, isAccepted, recordOf, advanced, noted, recorded, moved, taken, step}
+use Rattle.journal.specs.States.{Whole, whole, state, valid_whole}
+use Rattle.journal.specs.Step.{Result, result, is_accepted, record_of, advanced, noted, recorded, moved, taken, step}
 use Rattle.journal.proofs.StateLaws.{Parts, parts, together, next-slot}
 
 -- a step of the machine alone, and the record of it
 abbrev pub own : Whole → machine.After
 own w = machine.step w.state.machine w.bytes
 
-abbrev pub ownRecord : Whole → Record
-ownRecord w = recordOf w.state.machine.registers w.bytes (plan w.state.machine w.bytes).changes
+abbrev pub own_record : Whole → Record
+own_record w = record_of w.state.machine.registers w.bytes (plan w.state.machine w.bytes).changes
 
 -- all there is after a step with a record, in a journal with room
-abbrev pub withRecord : Whole → Whole
-withRecord w =
+abbrev pub with_record : Whole → Whole
+with_record w =
     let d = room w.journal in
-    whole (state (own w).machine (slotAfter d w.state.next) (min (w.state.held + 1) d)) (own w).bytes
-    (filled w.journal w.state.next (ownRecord w))
+    whole (state (own w).machine (slot_after d w.state.next) (min (w.state.held + 1) d)) (own w).bytes
+    (filled w.journal w.state.next (own_record w))
 
 -- a record has as many registers as the machine
-pub record-registers : (s : Registers) (b : Lent) (c : Changes) → (recordOf s b c).registers ≡ s.value
-unfolding recordOf
+pub record-registers : (s : Registers) (b : Lent) (c : Changes) → (record_of s b c).registers ≡ s.value
+unfolding record_of
 record-registers s b Nothing = refl
 record-registers s b (One x) = refl
 record-registers s b (Two x y) = refl
@@ -51,56 +51,56 @@ record-registers s b (Two x y) = refl
 module _ (w : Whole) where
   -- ---- a step, valid state or not
 
-  pub invalid-step : validWhole w ≡ false → step w ≡ result (no 1) w
+  pub invalid-step : valid_whole w ≡ false → step w ≡ result (no 1) w
   unfolding step
   invalid-step h = rw h
 
-  pub valid-step : validWhole w ≡ true → step w ≡ taken w (own w)
+  pub valid-step : valid_whole w ≡ true → step w ≡ taken w (own w)
   unfolding step
   valid-step h = rw h
 
   -- its answer is the machine's
-  pub step-answer : validWhole w ≡ true → (step w).answer ≡ (own w).answer
+  pub step-answer : valid_whole w ≡ true → (step w).answer ≡ (own w).answer
   unfolding taken
   step-answer h = ap (λ (x : Result). x.answer) (valid-step h)
 
   -- only a valid state's is accepted
-  pub accepted-valid : isAccepted (step w).answer ≡ true → validWhole w ≡ true
-  unfolding isAccepted
-  accepted-valid e = go (validWhole w) refl
+  pub accepted-valid : is_accepted (step w).answer ≡ true → valid_whole w ≡ true
+  unfolding is_accepted
+  accepted-valid e = go (valid_whole w) refl
     where
-      go : (t : Bool) → validWhole w ≡ t → validWhole w ≡ true
+      go : (t : Bool) → valid_whole w ≡ t → valid_whole w ≡ true
       go true h = h
-      go false h = clash (sym (ap (λ (x : Result). isAccepted x.answer) (invalid-step h)) ∙ e)
+      go false h = clash (sym (ap (λ (x : Result). is_accepted x.answer) (invalid-step h)) ∙ e)
 
   -- ---- what is not accepted changes nothing
 
-  taken-kept : (a : machine.After) → isAccepted a.answer ≡ false → (taken w a).whole ≡ w
+  taken-kept : (a : machine.After) → is_accepted a.answer ≡ false → (taken w a).whole ≡ w
   unfolding taken
   taken-kept a e = rw e
 
-  pub step_kept : isAccepted (step w).answer ≡ false → (step w).whole ≡ w
-  step_kept e = go (validWhole w) refl
+  pub step_kept : is_accepted (step w).answer ≡ false → (step w).whole ≡ w
+  step_kept e = go (valid_whole w) refl
     where
-      go : (t : Bool) → validWhole w ≡ t → (step w).whole ≡ w
+      go : (t : Bool) → valid_whole w ≡ t → (step w).whole ≡ w
       go false h = ap (λ (x : Result). x.whole) (invalid-step h)
       go true h =
-          ap (λ (x : Result). x.whole) (valid-step h) ∙ taken-kept (own w) (ap isAccepted (sym (step-answer h)) ∙ e)
+          ap (λ (x : Result). x.whole) (valid-step h) ∙ taken-kept (own w) (ap is_accepted (sym (step-answer h)) ∙ e)
 
   -- ---- what an accepted step leaves
 
-  taken-recorded : (a : machine.After) → isAccepted a.answer ≡ true → (taken w a).whole ≡ recorded (ownRecord w) (moved w a)
+  taken-recorded : (a : machine.After) → is_accepted a.answer ≡ true → (taken w a).whole ≡ recorded (own_record w) (moved w a)
   unfolding taken
   taken-recorded a e = rw e
 
-  module _ (e : isAccepted (step w).answer ≡ true) where
-    step-whole : (step w).whole ≡ recorded (ownRecord w) (moved w (own w))
+  module _ (e : is_accepted (step w).answer ≡ true) where
+    step-whole : (step w).whole ≡ recorded (own_record w) (moved w (own w))
     step-whole =
-        let h : validWhole w ≡ true = accepted-valid e in
-        ap (λ (x : Result). x.whole) (valid-step h) ∙ taken-recorded (own w) (ap isAccepted (sym (step-answer h)) ∙ e)
+        let h : valid_whole w ≡ true = accepted-valid e in
+        ap (λ (x : Result). x.whole) (valid-step h) ∙ taken-recorded (own w) (ap is_accepted (sym (step-answer h)) ∙ e)
 
-    pub own-accepted : isAccepted (own w).answer ≡ true
-    own-accepted = ap isAccepted (sym (step-answer (accepted-valid e))) ∙ e
+    pub own-accepted : is_accepted (own w).answer ≡ true
+    own-accepted = ap is_accepted (sym (step-answer (accepted-valid e))) ∙ e
 
     -- without room it is the machine's own
     pub step-unrecorded : room w.journal ≡ 0 → (step w).whole ≡ moved w (own w)
@@ -108,13 +108,13 @@ module _ (w : Whole) where
     step-unrecorded z = step-whole ∙ rw (eq-eqb (room w.journal) 0 z)
 
     -- with room, slot `next` is filled, and next and held go on
-    pub step-recorded : (room w.journal ≡ 0 → ⊥) → (step w).whole ≡ withRecord w
+    pub step-recorded : (room w.journal ≡ 0 → ⊥) → (step w).whole ≡ with_record w
     unfolding advanced noted
     step-recorded n = step-whole ∙ rw (ne_eqb (room w.journal) 0 n)
 
     -- what holds of both holds after it
     pub accepted-step : (P : Whole → Type 0) → (room w.journal ≡ 0 → P (moved w (own w)))
-        → (0 < room w.journal → P (withRecord w)) → P (step w).whole
+        → (0 < room w.journal → P (with_record w)) → P (step w).whole
     accepted-step P none some = go (eqb (room w.journal) 0) refl
       where
         go : (t : Bool) → eqb (room w.journal) 0 ≡ t → P (step w).whole
@@ -124,16 +124,16 @@ module _ (w : Whole) where
             subst⁻¹ P (step-recorded k) (some (omega (arith, k)))
 
   -- and what holds before it too, after every step
-  pub every-step : (P : Whole → Type 0) → P w → (isAccepted (step w).answer ≡ true → P (step w).whole) → P (step w).whole
-  every-step P x y = go (isAccepted (step w).answer) refl
+  pub every-step : (P : Whole → Type 0) → P w → (is_accepted (step w).answer ≡ true → P (step w).whole) → P (step w).whole
+  every-step P x y = go (is_accepted (step w).answer) refl
     where
-      go : (t : Bool) → isAccepted (step w).answer ≡ t → P (step w).whole
+      go : (t : Bool) → is_accepted (step w).answer ≡ t → P (step w).whole
       go false e = subst⁻¹ P (step_kept e) x
       go true e = y e
 
   -- ---- the record
 
-  pub own-eight : length w.state.machine.registers.value ≡ 8 → length (ownRecord w).registers ≡ 8
+  pub own-eight : length w.state.machine.registers.value ≡ 8 → length (own_record w).registers ≡ 8
   own-eight l =
       let m = w.state.machine in
       ap length (record-registers m.registers w.bytes (plan m w.bytes).changes) ∙ l
@@ -159,9 +159,9 @@ module _ (w : Whole) where
       Same v = v.state.machine.map ≡ w.state.machine.map
 
   -- the journal's room
-  pub filled-room : length w.state.machine.registers.value ≡ 8 → validWhole w ≡ true → 0 < room w.journal
-      → room (filled w.journal w.state.next (ownRecord w)) ≡ room w.journal
-  filled-room l h n = room-filled w.journal w.state.next (ownRecord w) (own-eight l) (next-slot w h n)
+  pub filled-room : length w.state.machine.registers.value ≡ 8 → valid_whole w ≡ true → 0 < room w.journal
+      → room (filled w.journal w.state.next (own_record w)) ≡ room w.journal
+  filled-room l h n = room-filled w.journal w.state.next (own_record w) (own-eight l) (next-slot w h n)
 
   pub step_room : length w.state.machine.registers.value ≡ 8 → room (step w).whole.journal ≡ room w.journal
   step_room l =
@@ -171,9 +171,9 @@ module _ (w : Whole) where
       Kept v = room v.journal ≡ room w.journal
 
   -- validity
-  pub step-valid : length w.state.machine.registers.value ≡ 8 → validWhole w ≡ true → validWhole (step w).whole ≡ true
+  pub step-valid : length w.state.machine.registers.value ≡ 8 → valid_whole w ≡ true → valid_whole (step w).whole ≡ true
   step-valid l h =
-      every-step (λ (v : Whole). validWhole v ≡ true) h (λ e. together (step w).whole (accepted-step e Parts none some))
+      every-step (λ (v : Whole). valid_whole v ≡ true) h (λ e. together (step w).whole (accepted-step e Parts none some))
     where
       p : Parts w
       p = parts w h
@@ -184,11 +184,11 @@ module _ (w : Whole) where
       none : room w.journal ≡ 0 → Parts (moved w (own w))
       none z = record { tables = moved-tables; held = p.held; next = p.next }
 
-      some : 0 < room w.journal → Parts (withRecord w)
+      some : 0 < room w.journal → Parts (with_record w)
       some n =
           let d = room w.journal in
           let k = w.state.next in
-          let q : room (filled w.journal k (ownRecord w)) ≡ d = filled-room l h n in
+          let q : room (filled w.journal k (own_record w)) ≡ d = filled-room l h n in
           record { tables = moved-tables; held = rw q (omega arith); next = rw q (omega (arith, after-lt d k n)) }
 
   -- ---- without its record, the step is the machine's own
@@ -199,25 +199,25 @@ module _ (w : Whole) where
     pub bytes : (step w).whole.bytes ≡ (own w).bytes
 
   -- what is not accepted changes nothing there either
-  unaccepted-own : (a : Told answers.Reply) → (own w).answer ≡ a → isAccepted a ≡ false
+  unaccepted-own : (a : Told answers.Reply) → (own w).answer ≡ a → is_accepted a ≡ false
       → own w ≡ machine.after a w.state.machine w.bytes
-  unfolding isAccepted
+  unfolding is_accepted
   unaccepted-own (is answers.Continue) e n = clash (sym n)
   unaccepted-own (is answers.Debug) e n = clash (sym n)
   unaccepted-own (is answers.Stop) e n = machine-laws.step-stopped w.state.machine w.bytes e
   unaccepted-own (no k) e n = machine-laws.step-refused w.state.machine w.bytes k e
 
-  pub step-own : validWhole w ≡ true → Own
-  step-own h = go (isAccepted (step w).answer) refl
+  pub step-own : valid_whole w ≡ true → Own
+  step-own h = go (is_accepted (step w).answer) refl
     where
-      go : (t : Bool) → isAccepted (step w).answer ≡ t → Own
+      go : (t : Bool) → is_accepted (step w).answer ≡ t → Own
       go true e = record {
         answer = step-answer h;
         machine = accepted-step e (λ (v : Whole). v.state.machine ≡ (own w).machine) (λ z. refl) (λ n. refl);
         bytes = accepted-step e (λ (v : Whole). v.bytes ≡ (own w).bytes) (λ z. refl) (λ n. refl);
       }
       go false e =
-          let q = unaccepted-own (own w).answer refl (ap isAccepted (sym (step-answer h)) ∙ e) in
+          let q = unaccepted-own (own w).answer refl (ap is_accepted (sym (step-answer h)) ∙ e) in
           record {
             answer = step-answer h;
             machine = ap (λ (v : Whole). v.state.machine) (step_kept e) ∙ sym (ap (λ (x : machine.After). x.machine) q);
@@ -227,19 +227,19 @@ module _ (w : Whole) where
   -- ---- a refused step's number is 1 to 9
 
   step-numbered : Numbered 1 9 (step w).answer
-  step-numbered = go (validWhole w) refl
+  step-numbered = go (valid_whole w) refl
     where
-      go : (t : Bool) → validWhole w ≡ t → Numbered 1 9 (step w).answer
+      go : (t : Bool) → valid_whole w ≡ t → Numbered 1 9 (step w).answer
       go true h = subst⁻¹ (Numbered 1 9) (step-answer h) (machine-laws.step-numbered w.state.machine w.bytes)
       go false h = subst⁻¹ (λ (x : Result). Numbered 1 9 x.answer) (invalid-step h) (omega arith, omega arith)
 
   -- so what holds of Continue and Debug as accepted, and of Stop and these numbers as not accepted, holds of every step's answer
   pub every-answer : (P : Told answers.Reply → Bool → Type 0) → P (is answers.Continue) true → P (is answers.Debug) true
-      → P (is answers.Stop) false → ((n : ℕ) → 1 ≤ n → n ≤ 9 → P (no n) false) → P (step w).answer (isAccepted (step w).answer)
-  unfolding isAccepted
+      → P (is answers.Stop) false → ((n : ℕ) → 1 ≤ n → n ≤ 9 → P (no n) false) → P (step w).answer (is_accepted (step w).answer)
+  unfolding is_accepted
   every-answer P continues debugs stops refused = go (step w).answer step-numbered
     where
-      go : (a : Told answers.Reply) → Numbered 1 9 a → P a (isAccepted a)
+      go : (a : Told answers.Reply) → Numbered 1 9 a → P a (is_accepted a)
       go (is answers.Continue) h = continues
       go (is answers.Debug) h = debugs
       go (is answers.Stop) h = stops

@@ -13,49 +13,49 @@ use Rattle.memory.specs.Words.{made}
 use Rattle.machine.specs.States as machines
 use Rattle.machine.specs.Plan.{Planned, plan}
 use Rattle.machine.specs.Step as machine
-use Rattle.machine.proofs.Laws as machineLaws
-use Rattle.records.specs.Slots.{room, slotAfter}
+use Rattle.machine.proofs.Laws as machine_laws
+use Rattle.records.specs.Slots.{room, slot_after}
 use Rattle.records.proofs.Laws.{room-length}
 use Rattle.records.proofs.Ring.{after-lt}
 use Rattle.records.specs.declared.Record.{Record}
 use Rattle.journal.specs.declared.State.{State}
-use Rattle.journal.specs.States.{Whole, whole, state, valid, validWhole}
+use Rattle.journal.specs.States.{Whole, whole, state, valid, valid_whole}
 use Rattle.journal.proofs.StateLaws.{valid-of, valid-machine, valid-held, valid-next}
-use Rattle.journal.specs.Step.{result, isAccepted, recordOf, advanced, noted, recorded, moved, taken, step}
+use Rattle.journal.specs.Step.{result, is_accepted, record_of, advanced, noted, recorded, moved, taken, step}
 
 -- what the machine's own plan is, over the whole state
 abbrev pub plan_of : Whole → Planned
 plan_of w = plan w.state.machine w.bytes
 
 -- and the machine and the bytes after it is committed
-abbrev pub committedOf : Whole → machine.After
-committedOf w = machine.committed w.state.machine w.bytes (plan_of w)
+abbrev pub committed_of : Whole → machine.After
+committed_of w = machine.committed w.state.machine w.bytes (plan_of w)
 
-module _ (w : Whole) (v : validWhole w ≡ true) where
-  step-taken : step w ≡ taken w (committedOf w)
+module _ (w : Whole) (v : valid_whole w ≡ true) where
+  step-taken : step w ≡ taken w (committed_of w)
   unfolding step
-  step-taken = rw (v, machineLaws.valid-step w.state.machine w.bytes (valid-machine w.state w.bytes.dev w.journal v))
+  step-taken = rw (v, machine_laws.valid-step w.state.machine w.bytes (valid-machine w.state w.bytes.dev w.journal v))
 
-  committed-parts : committedOf w ≡ machine.after (plan_of w).answer (machines.with w.state.machine (plan_of w).registers) (made (plan_of w).changes w.bytes)
-  committed-parts = machineLaws.committed-as w.state.machine w.bytes (plan_of w)
+  committed-parts : committed_of w ≡ machine.after (plan_of w).answer (machines.with w.state.machine (plan_of w).registers) (made (plan_of w).changes w.bytes)
+  committed-parts = machine_laws.committed-as w.state.machine w.bytes (plan_of w)
 
   -- Stop and refusals
-  pub step-not : isAccepted (plan_of w).answer ≡ false → step w ≡ result (plan_of w).answer w
+  pub step-not : is_accepted (plan_of w).answer ≡ false → step w ≡ result (plan_of w).answer w
   unfolding taken
   step-not f = step-taken ∙ ap (taken w) committed-parts ∙ rw f
 
   -- Continue and Debug
-  pub step-accepted : isAccepted (plan_of w).answer ≡ true
-      → step w ≡ result (plan_of w).answer (recorded (recordOf w.state.machine.registers w.bytes (plan_of w).changes) (moved w (committedOf w)))
+  pub step-accepted : is_accepted (plan_of w).answer ≡ true
+      → step w ≡ result (plan_of w).answer (recorded (record_of w.state.machine.registers w.bytes (plan_of w).changes) (moved w (committed_of w)))
   unfolding taken
   step-accepted t =
-      let r = recordOf w.state.machine.registers w.bytes (plan_of w).changes in
+      let r = record_of w.state.machine.registers w.bytes (plan_of w).changes in
       step-taken ∙ ap (taken w) committed-parts
       ∙ rw t (ap (λ (a : machine.After). result (plan_of w).answer (recorded r (moved w a))) (sym committed-parts))
 
   -- the same, part by part, as the code has them: the plan p, the machine's step a, the record r, the state and the journal after it
-  pub step-made : (p : Planned) (a : machine.After) (r : Record) (s : State) (j : List ℕ) → p ≡ plan_of w → isAccepted p.answer ≡ true
-      → r ≡ recordOf w.state.machine.registers w.bytes p.changes
+  pub step-made : (p : Planned) (a : machine.After) (r : Record) (s : State) (j : List ℕ) → p ≡ plan_of w → is_accepted p.answer ≡ true
+      → r ≡ record_of w.state.machine.registers w.bytes p.changes
       → a ≡ machine.committed w.state.machine w.bytes p
       → s ≡ advanced (state a.machine w.state.next w.state.held) (room w.journal)
       → j ≡ noted w.state.next (room w.journal) r w.journal
@@ -81,21 +81,21 @@ advanced-valid s dev journal later e v = go (eqb (room journal) 0) refl
     most : s.held ≤ room journal
     most = valid-held s dev journal v
 
-    go : (t : Bool) → eqb (room journal) 0 ≡ t → valid (cond t s (state s.machine (slotAfter (room journal) s.next) (min (s.held + 1) (room journal)))) dev later ≡ true
+    go : (t : Bool) → eqb (room journal) 0 ≡ t → valid (cond t s (state s.machine (slot_after (room journal) s.next) (min (s.held + 1) (room journal)))) dev later ≡ true
     go true f = valid-of s dev later tables (omega (arith, most, same)) (omega (arith, next, same))
     go false f =
         let z : 0 < room journal = omega (arith, eqb-false (room journal) 0 f) in
         let h : min (s.held + 1) (room journal) ≤ room later = omega (arith, same) in
-        let n : slotAfter (room journal) s.next < max 1 (room later) = omega (arith, same, after-lt (room journal) s.next z) in
-        valid-of (state s.machine (slotAfter (room journal) s.next) (min (s.held + 1) (room journal))) dev later tables h n
+        let n : slot_after (room journal) s.next < max 1 (room later) = omega (arith, same, after-lt (room journal) s.next z) in
+        valid-of (state s.machine (slot_after (room journal) s.next) (min (s.held + 1) (room journal))) dev later tables h n
 
 -- the machine's step, recorded
-pub made-valid : (w : Whole) → validWhole w ≡ true → (a : machine.After) → a ≡ committedOf w → (later : List ℕ) → length later ≡ length w.journal
+pub made-valid : (w : Whole) → valid_whole w ≡ true → (a : machine.After) → a ≡ committed_of w → (later : List ℕ) → length later ≡ length w.journal
     → valid (advanced (state a.machine w.state.next w.state.held) (room w.journal)) a.bytes.dev later ≡ true
 made-valid w v a e later l =
     let s = w.state in
     let t : machines.valid s.machine w.bytes.dev ≡ true = valid-machine s w.bytes.dev w.journal v in
-    let f : a ≡ machine.step s.machine w.bytes = e ∙ sym (machineLaws.valid-step s.machine w.bytes t) in
-    let k : machines.valid a.machine a.bytes.dev ≡ true = ap (λ (x : machine.After). machines.valid x.machine x.bytes.dev) f ∙ machineLaws.step-valid s.machine w.bytes t in
+    let f : a ≡ machine.step s.machine w.bytes = e ∙ sym (machine_laws.valid-step s.machine w.bytes t) in
+    let k : machines.valid a.machine a.bytes.dev ≡ true = ap (λ (x : machine.After). machines.valid x.machine x.bytes.dev) f ∙ machine_laws.step-valid s.machine w.bytes t in
     advanced-valid (state a.machine s.next s.held) a.bytes.dev w.journal later l
     (valid-of (state a.machine s.next s.held) a.bytes.dev w.journal k (valid-held s w.bytes.dev w.journal v) (valid-next s w.bytes.dev w.journal v))

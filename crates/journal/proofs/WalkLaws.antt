@@ -5,24 +5,24 @@ use mathlib.Core.List.{List, [], ◌∷◌}
 use lib.Dec.{eqb}
 use Rattle.base.specs.Choice.{cond}
 use Rattle.journal.specs.States.{Whole}
-use Rattle.journal.specs.Step.{isAccepted, step}
-use Rattle.journal.specs.Back.{stepBack}
-use Rattle.journal.specs.Demand.{Move, Step, Back, afterMove, walk, steps, backs}
+use Rattle.journal.specs.Step.{is_accepted, step}
+use Rattle.journal.specs.Back.{step_back}
+use Rattle.journal.specs.Demand.{Move, Step, Back, after_move, walk, steps, backs}
 
 module _ (w : Whole) where
-  pub after-step : afterMove w Step ≡ (step w).whole
-  unfolding afterMove
+  pub after-step : after_move w Step ≡ (step w).whole
+  unfolding after_move
   after-step = refl
 
-  pub after-back : afterMove w Back ≡ (stepBack w).whole
-  unfolding afterMove
+  pub after-back : after_move w Back ≡ (step_back w).whole
+  unfolding after_move
   after-back = refl
 
   pub walk_none : walk w [] ≡ w
   unfolding walk
   walk_none = refl
 
-  pub walk_more : (m : Move) (rest : List Move) → walk w (m ∷ rest) ≡ walk (afterMove w m) rest
+  pub walk_more : (m : Move) (rest : List Move) → walk w (m ∷ rest) ≡ walk (after_move w m) rest
   unfolding walk
   walk_more m rest = refl
 
@@ -37,18 +37,18 @@ module _ (w : Whole) where
   backs-none = refl
 
   module _ (rest : List Move) where
-    pub steps-step : steps w (Step ∷ rest) ≡ cond (isAccepted (step w).answer) 1 0 + steps (afterMove w Step) rest
+    pub steps-step : steps w (Step ∷ rest) ≡ cond (is_accepted (step w).answer) 1 0 + steps (after_move w Step) rest
     unfolding steps
     steps-step = refl
 
-    pub steps_back : steps w (Back ∷ rest) ≡ steps (afterMove w Back) rest
+    pub steps_back : steps w (Back ∷ rest) ≡ steps (after_move w Back) rest
     unfolding steps
     steps_back = refl
 
-    pub backs-step : backs w (Step ∷ rest) ≡ backs (afterMove w Step) rest
+    pub backs-step : backs w (Step ∷ rest) ≡ backs (after_move w Step) rest
     unfolding backs
     backs-step = refl
 
-    pub backs-back : backs w (Back ∷ rest) ≡ cond (eqb (stepBack w).number 0) 1 0 + backs (afterMove w Back) rest
+    pub backs-back : backs w (Back ∷ rest) ≡ cond (eqb (step_back w).number 0) 1 0 + backs (after_move w Back) rest
     unfolding backs
     backs-back = refl

@@ -5,10 +5,10 @@ use Rattle.base.specs.Order.{Refusing, ◌when◌, first_of}
 use Rattle.machine.specs.States as machine
 use Rattle.machine.specs.declared.Machine.{Machine}
 use Rattle.map.specs.declared.Map.{Map}
-use Rattle.memory.specs.Bytes.{Lent, takes, storeByte}
-use Rattle.records.specs.Slots.{room, recordAt, slotBefore}
+use Rattle.memory.specs.Bytes.{Lent, takes, store_byte}
+use Rattle.records.specs.Slots.{room, record_at, slot_before}
 use Rattle.records.specs.declared.Record.{Record}
-use Rattle.journal.specs.States.{Whole, whole, state, valid, validWhole, emptied}
+use Rattle.journal.specs.States.{Whole, whole, state, valid, valid_whole, emptied}
 use Rattle.journal.specs.declared.Used.{Used}
 use Rattle.journal.specs.declared.Used.TheVariants.{Neither, First, Both, Unknown}
 use Rattle.journal.specs.declared.State.{State}
@@ -24,11 +24,11 @@ backed n w = record { number = n; whole = w }
 -- ---- a record
 
 -- which of its two places a kind uses: that many bytes were stored
-unfoldable pub usedBy : ℕ → Used
-usedBy zero = Neither
-usedBy (suc zero) = First
-usedBy (suc (suc zero)) = Both
-usedBy (suc (suc (suc n))) = Unknown
+unfoldable pub used_by : ℕ → Used
+used_by zero = Neither
+used_by (suc zero) = First
+used_by (suc (suc zero)) = Both
+used_by (suc (suc (suc n))) = Unknown
 
 -- 11: kind over 2, or a used address takes no store
 unfoldable pub fits : Map → Lent → Record → Used → Bool
@@ -40,14 +40,14 @@ fits m b r Unknown = false
 -- second byte, first byte
 unfoldable pub restored : Map → Lent → Record → Used → Lent
 restored m b r Neither = b
-restored m b r First = storeByte m b r.first.address r.first.byte
-restored m b r Both = storeByte m (storeByte m b r.second.address r.second.byte) r.first.address r.first.byte
+restored m b r First = store_byte m b r.first.address r.first.byte
+restored m b r Both = store_byte m (store_byte m b r.second.address r.second.byte) r.first.address r.first.byte
 restored m b r Unknown = b
 
 -- ---- the newest one
 
 unfoldable pub newest : Whole → Record
-newest w = recordAt w.journal (slotBefore (room w.journal) w.state.next)
+newest w = record_at w.journal (slot_before (room w.journal) w.state.next)
 
 -- the machine with a record's registers
 abbrev pub with : Machine → Record → Machine
@@ -58,27 +58,27 @@ unfoldable pub undone : Whole → Record → Whole
 undone w r =
     let s = w.state in
     let m = s.machine in
-    whole (state (with m r) (slotBefore (room w.journal) s.next) (s.held - 1)) (restored m.map w.bytes r (usedBy r.kind)) w.journal
+    whole (state (with m r) (slot_before (room w.journal) s.next) (s.held - 1)) (restored m.map w.bytes r (used_by r.kind)) w.journal
 
 -- ---- step-back: 10, 11
 
-unfoldable pub backOrder : Whole → List Refusing
-backOrder w =
+unfoldable pub back_order : Whole → List Refusing
+back_order w =
     10 when eqb w.state.held 0
-    ∷ 11 when not (fits w.state.machine.map w.bytes (newest w) (usedBy (newest w).kind))
+    ∷ 11 when not (fits w.state.machine.map w.bytes (newest w) (used_by (newest w).kind))
     ∷ []
 
 -- 1 first
-unfoldable pub backNumber : Whole → ℕ
-backNumber w = first_of (1 when not (validWhole w) ∷ backOrder w)
+unfoldable pub back_number : Whole → ℕ
+back_number w = first_of (1 when not (valid_whole w) ∷ back_order w)
 
-unfoldable pub stepBack : Whole → Backed
-stepBack w = backed (backNumber w) (cond (eqb (backNumber w) 0) (undone w (newest w)) w)
+unfoldable pub step_back : Whole → Backed
+step_back w = backed (back_number w) (cond (eqb (back_number w) 0) (undone w (newest w)) w)
 
 -- ---- forget: 1, and the journal is emptied
 
-unfoldable pub forgetNumber : State → List ℕ → List ℕ → ℕ
-forgetNumber s dev journal = first_of (1 when not (valid s dev journal) ∷ [])
+unfoldable pub forget_number : State → List ℕ → List ℕ → ℕ
+forget_number s dev journal = first_of (1 when not (valid s dev journal) ∷ [])
 
 unfoldable pub forgotten : State → List ℕ → List ℕ → State
 forgotten s dev journal = cond (valid s dev journal) (emptied s) s

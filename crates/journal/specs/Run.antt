@@ -5,7 +5,7 @@ use Rattle.base.specs.Choice.{cond}
 use Rattle.base.specs.Told.{Told, is, no}
 use Rattle.machine.specs.Answers.{Reply, Continue, Debug, Stop}
 use Rattle.journal.specs.States.{Whole, valid}
-use Rattle.journal.specs.Step.{isAccepted, step}
+use Rattle.journal.specs.Step.{is_accepted, step}
 
 pub record Ran : Type 0 where
   pub answer : Told Reply
@@ -16,25 +16,25 @@ abbrev pub ran : Told Reply → ℕ → Whole → Ran
 ran a n w = record { answer = a; count = n; whole = w }
 
 -- one accepted step more, before the others
-abbrev pub oneMore : Ran → Ran
-oneMore r = ran r.answer (suc r.count) r.whole
+abbrev pub one_more : Ran → Ran
+one_more r = ran r.answer (suc r.count) r.whole
 
 -- only Continue leads on
-unfoldable pub goesOn : Told Reply → Bool
-goesOn (is Continue) = true
-goesOn (is Debug) = false
-goesOn (is Stop) = false
-goesOn (no n) = false
+unfoldable pub goes_on : Told Reply → Bool
+goes_on (is Continue) = true
+goes_on (is Debug) = false
+goes_on (is Stop) = false
+goes_on (no n) = false
 
 -- a step counts if it is accepted, Debug included
 unfoldable pub counts : Told Reply → ℕ
-counts a = cond (isAccepted a) 1 0
+counts a = cond (is_accepted a) 1 0
 
 unfoldable pub repeated : ℕ → Whole → Ran
 repeated zero w = ran (is Continue) 0 w
 repeated (suc n) w =
     let a = step w in
-    cond (goesOn a.answer) (oneMore (repeated n a.whole)) (ran a.answer (counts a.answer) a.whole)
+    cond (goes_on a.answer) (one_more (repeated n a.whole)) (ran a.answer (counts a.answer) a.whole)
 
 unfoldable pub run : ℕ → Whole → Ran
 run n w = cond (valid w.state w.bytes.dev w.journal) (repeated n w) (ran (no 1) 0 w)

@@ -18,16 +18,16 @@ abbrev pub state : Machine → ℕ → ℕ → State
 state m next held = record { machine = m; next = next; held = held }
 
 -- next < D (or next = 0 = D)
-unfoldable pub nextIn : ℕ → ℕ → Bool
-nextIn next d = ltb next d || (eqb next 0 && eqb d 0)
+unfoldable pub next_in : ℕ → ℕ → Bool
+next_in next d = ltb next d || (eqb next 0 && eqb d 0)
 
 -- a state is valid if its tables are, held <= D, and next is a slot; of the state and the bytes of its device buffer and its journal
 unfoldable pub valid : State → List ℕ → List ℕ → Bool
 valid s dev journal =
-    machine.valid s.machine dev && leb s.held (room journal) && nextIn s.next (room journal)
+    machine.valid s.machine dev && leb s.held (room journal) && next_in s.next (room journal)
 
-abbrev pub validWhole : Whole → Bool
-validWhole w = valid w.state w.bytes.dev w.journal
+abbrev pub valid_whole : Whole → Bool
+valid_whole w = valid w.state w.bytes.dev w.journal
 
 -- a new state: the machine is new, nothing is held
 abbrev pub fresh : Bool → State

@@ -14,7 +14,7 @@ use Rattle.memory.specs.declared.Changes.TheVariants.{Nothing, One, Two}
 use Rattle.memory.specs.declared.Read.{Read}
 use Rattle.memory.specs.declared.Read.TheVariants.{Byte, Unmapped}
 use Rattle.records.specs.Records.{old, entry}
-use Rattle.records.specs.Slots.{room, filled, slotAfter}
+use Rattle.records.specs.Slots.{room, filled, slot_after}
 use Rattle.records.specs.declared.Old.{Old}
 use Rattle.records.specs.declared.Record.{Record}
 use Rattle.journal.specs.States.{Whole, whole, state, valid}
@@ -29,11 +29,11 @@ abbrev pub result : Told answers.Reply → Whole → Result
 result a w = record { answer = a; whole = w }
 
 -- accepted means Continue or Debug
-unfoldable pub isAccepted : Told answers.Reply → Bool
-isAccepted (is answers.Continue) = true
-isAccepted (is answers.Debug) = true
-isAccepted (is answers.Stop) = false
-isAccepted (no n) = false
+unfoldable pub is_accepted : Told answers.Reply → Bool
+is_accepted (is answers.Continue) = true
+is_accepted (is answers.Debug) = true
+is_accepted (is answers.Stop) = false
+is_accepted (no n) = false
 
 -- ---- the record of a step
 
@@ -46,16 +46,16 @@ unfoldable pub replaced : Lent → Change → Old
 replaced b x = old x.address (byte_of (get x.place b))
 
 -- the kind says how many bytes are stored; the registers s are those before the step; unused is zero
-unfoldable pub recordOf : Registers → Lent → Changes → Record
-recordOf s b Nothing = entry 0 s.value (old 0 0) (old 0 0)
-recordOf s b (One x) = entry 1 s.value (replaced b x) (old 0 0)
-recordOf s b (Two x y) = entry 2 s.value (replaced b x) (replaced b y)
+unfoldable pub record_of : Registers → Lent → Changes → Record
+record_of s b Nothing = entry 0 s.value (old 0 0) (old 0 0)
+record_of s b (One x) = entry 1 s.value (replaced b x) (old 0 0)
+record_of s b (Two x y) = entry 2 s.value (replaced b x) (replaced b y)
 
 -- ---- where it goes, in a journal with room for d
 
 -- one slot on, one record more held
 unfoldable pub advanced : State → ℕ → State
-advanced s d = cond (eqb d 0) s (state s.machine (slotAfter d s.next) (min (s.held + 1) d))
+advanced s d = cond (eqb d 0) s (state s.machine (slot_after d s.next) (min (s.held + 1) d))
 
 unfoldable pub noted : ℕ → ℕ → Record → List ℕ → List ℕ
 noted next d r journal = cond (eqb d 0) journal (filled journal next r)
@@ -76,7 +76,7 @@ unfoldable pub taken : Whole → machine.After → Result
 taken w a =
     let m = w.state.machine in
     result a.answer
-    (cond (isAccepted a.answer) (recorded (recordOf m.registers w.bytes (plan m w.bytes).changes) (moved w a)) w)
+    (cond (is_accepted a.answer) (recorded (record_of m.registers w.bytes (plan m w.bytes).changes) (moved w a)) w)
 
 -- 1 first
 unfoldable pub step : Whole → Result

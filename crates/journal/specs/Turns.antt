@@ -21,9 +21,9 @@ pub record Going : Type 0 where
 abbrev pub state_of : Going → Mode → Map → State
 state_of g mode map = state (record { registers = g.registers; mode = mode; map = map }) g.next g.held
 
-abbrev pub goingFrom : List ℕ → Ring → Going
-goingFrom g r = record { registers = regs g; next = r.next; held = r.held }
+abbrev pub going_from : List ℕ → Ring → Going
+going_from g r = record { registers = regs g; next = r.next; held = r.held }
 
 -- one register gets a value, and then PC its own
-abbrev pub goingAfter : List ℕ → Turned → Going
-goingAfter g t = record { registers = put (put (regs g) t.register t.value) PC t.pc; next = t.ring.next; held = t.ring.held }
+abbrev pub going_after : List ℕ → Turned → Going
+going_after g t = record { registers = put (put (regs g) t.register t.value) PC t.pc; next = t.ring.next; held = t.ring.held }

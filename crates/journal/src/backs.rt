@@ -1,9 +1,9 @@
 // Step-back and forget.
 ghost use Rattle.std.specs.Prelude.{◌≡◌};
-ghost use Rattle.base.specs.Numbers.{number_of, answerNumber};
+ghost use Rattle.base.specs.Numbers.{number_of, answer_number};
 ghost use Rattle.memory.specs.Bytes.{lent};
 ghost use Rattle.journal.specs.States.{whole};
-ghost use Rattle.journal.specs.Back.{usedBy, fits, restored, with, backed, stepBack, forgetNumber, forgotten};
+ghost use Rattle.journal.specs.Back.{used_by, fits, restored, with, backed, step_back, forget_number, forgotten};
 
 use crate::states::valid;
 use crate::{Changed, State, Used};
@@ -14,7 +14,7 @@ use records::Record;
 
 // What a kind says of a record's two places: as many of them are used as bytes were stored.
 fn used_by(kind: u8) -> Used
-    ensures { result ≡ usedBy kind }
+    ensures { result ≡ used_by kind }
 {
     match kind {
         0 => Used::Neither,
@@ -73,7 +73,7 @@ fn with_old(m: Machine, r: Record) -> Machine
 
 // A refusal, which leaves the state as it was.
 fn refused(s: State, r: Refusal) -> Changed
-    ensures answer_value { answerNumber result.answer ≡ number_of r }
+    ensures answer_value { answer_number result.answer ≡ number_of r }
     ensures state_value { result.state ≡ s }
 {
     Changed {
@@ -84,7 +84,7 @@ fn refused(s: State, r: Refusal) -> Changed
 
 // Takes the newest record back: 1, 10, 11. A refusal changes nothing.
 pub fn step_back(s: State, mem: &mut [u8], dev: &mut [u8], journal: &[u8]) -> Changed
-    ensures { backed (answerNumber result.answer) (whole result.state (lent mem.new dev.new) journal.now) ≡ stepBack (whole s (lent mem.old dev.old) journal.now) }
+    ensures { backed (answer_number result.answer) (whole result.state (lent mem.new dev.new) journal.now) ≡ step_back (whole s (lent mem.old dev.old) journal.now) }
 {
     if !valid(s, dev, journal) {
         return refused(s, Refusal::BadState);
@@ -115,7 +115,7 @@ pub fn step_back(s: State, mem: &mut [u8], dev: &mut [u8], journal: &[u8]) -> Ch
 
 // Empties the journal: 1. Its bytes stay.
 pub fn forget(s: State, dev: &[u8], journal: &[u8]) -> Changed
-    ensures answer_value { answerNumber result.answer ≡ forgetNumber s dev.now journal.now }
+    ensures answer_value { answer_number result.answer ≡ forget_number s dev.now journal.now }
     ensures state_value { result.state ≡ forgotten s dev.now journal.now }
 {
     if !valid(s, dev, journal) {

@@ -6,7 +6,7 @@ ghost use Rattle.machine.specs.Answers.{answered};
 ghost use Rattle.memory.specs.Bytes.{lent};
 ghost use Rattle.journal.specs.States.{whole};
 ghost use Rattle.journal.specs.Step.{result, step};
-ghost use Rattle.journal.specs.Run.{goesOn, counts, ran, run};
+ghost use Rattle.journal.specs.Run.{goes_on, counts, ran, run};
 
 use crate::states::valid;
 use crate::steps::{Ring, is_accepted, state_of, turn};
@@ -15,7 +15,7 @@ use base::Refusal;
 use machine::StepAnswer;
 
 fn goes_on(a: StepAnswer) -> bool
-    ensures* { λ t. ⌜ t ≡ goesOn (answered a) ⌝ }
+    ensures* { λ t. ⌜ t ≡ goes_on (answered a) ⌝ }
 {
     match a {
         StepAnswer::Continue => true,

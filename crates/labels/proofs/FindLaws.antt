@@ -11,7 +11,7 @@ use Rattle.base.specs.Choice.{cond}
 use Rattle.labels.specs.declared.Label.{Label}
 use Rattle.labels.specs.declared.Found.{Found}
 use Rattle.labels.specs.declared.Found.TheVariants.{Nothing, At}
-use Rattle.labels.specs.Labels.{isNamed, findFrom, find}
+use Rattle.labels.specs.Labels.{is_named, find_from, find}
 
 -- a search finds an entry, or it does not
 clash : {A : Type 0} {i a : ℕ} → Nothing ≡ At i a → A
@@ -21,8 +21,8 @@ module _ (text name : List ℕ) where
   -- entry k of the list has the name, and none before it
   pub record First (ls : List Label) (k : ℕ) : Type 0 where
     pub lt : k < length ls
-    pub named : (d : Label) → isNamed text name (get_or ls k d) ≡ true
-    pub earlier : (j : ℕ) (d : Label) → j < k → isNamed text name (get_or ls j d) ≡ false
+    pub named : (d : Label) → is_named text name (get_or ls k d) ≡ true
+    pub earlier : (j : ℕ) (d : Label) → j < k → is_named text name (get_or ls j d) ≡ false
 
   -- a search from entry i on found entry n, the first of these by `past`, with the address a
   record Reached (ls : List Label) (i n a : ℕ) : Type 0 where
@@ -31,24 +31,24 @@ module _ (text name : List ℕ) where
     pub first : First ls past
     pub there : (d : Label) → (get_or ls past d).address ≡ a
 
-  here : (l : Label) (ls : List Label) → isNamed text name l ≡ true → First (l ∷ ls) 0
+  here : (l : Label) (ls : List Label) → is_named text name l ≡ true → First (l ∷ ls) 0
   here l ls q = record { lt = omega arith; named = λ d. q; earlier = λ j d h. absurd (not-suc-le-zero h) }
 
   -- an entry without the name before them moves the others on
-  later : (l : Label) (ls : List Label) (k : ℕ) → isNamed text name l ≡ false → First ls k → First (l ∷ ls) (suc k)
+  later : (l : Label) (ls : List Label) (k : ℕ) → is_named text name l ≡ false → First ls k → First (l ∷ ls) (suc k)
   later l ls k q f = record { lt = suc-le-suc f.lt; named = f.named; earlier = before }
     where
-      before : (j : ℕ) (d : Label) → j < suc k → isNamed text name (get_or (l ∷ ls) j d) ≡ false
+      before : (j : ℕ) (d : Label) → j < suc k → is_named text name (get_or (l ∷ ls) j d) ≡ false
       before zero d h = q
       before (suc j) d h = f.earlier j d (le_of_suc-le-suc h)
 
-  reached : (ls : List Label) (i n a : ℕ) → findFrom text name i ls ≡ At n a → Reached ls i n a
-  unfolding findFrom
+  reached : (ls : List Label) (i n a : ℕ) → find_from text name i ls ≡ At n a → Reached ls i n a
+  unfolding find_from
   reached [] i n a e = clash e
-  reached (l ∷ ls) i n a e = go (isNamed text name l) refl (reached ls (i + 1) n a) e
+  reached (l ∷ ls) i n a e = go (is_named text name l) refl (reached ls (i + 1) n a) e
     where
-      go : (t : Bool) → isNamed text name l ≡ t → (findFrom text name (i + 1) ls ≡ At n a → Reached ls (i + 1) n a) →
-          cond t (At i l.address) (findFrom text name (i + 1) ls) ≡ At n a → Reached (l ∷ ls) i n a
+      go : (t : Bool) → is_named text name l ≡ t → (find_from text name (i + 1) ls ≡ At n a → Reached ls (i + 1) n a) →
+          cond t (At i l.address) (find_from text name (i + 1) ls) ≡ At n a → Reached (l ∷ ls) i n a
       go true q ih f =
           let p : i ≡ n = cc in
           let w : l.address ≡ a = cc in
@@ -68,13 +68,13 @@ module _ (text name : List ℕ) where
       let r = reached ls 0 n a e in
       subst (λ (k : ℕ). (get_or ls k d).address ≡ a) (sym (r.place ∙ zero-add r.past)) (r.there d)
 
-  pub passed : (ls : List Label) (i : ℕ) → findFrom text name i ls ≡ Nothing → (j : ℕ) (d : Label) → j < length ls → isNamed text name (get_or ls j d) ≡ false
-  unfolding findFrom
+  pub passed : (ls : List Label) (i : ℕ) → find_from text name i ls ≡ Nothing → (j : ℕ) (d : Label) → j < length ls → is_named text name (get_or ls j d) ≡ false
+  unfolding find_from
   passed [] i e j d h = absurd (not-suc-le-zero h)
-  passed (l ∷ ls) i e j d h = go (isNamed text name l) refl (passed ls (i + 1)) e j d h
+  passed (l ∷ ls) i e j d h = go (is_named text name l) refl (passed ls (i + 1)) e j d h
     where
-      go : (t : Bool) → isNamed text name l ≡ t → (findFrom text name (i + 1) ls ≡ Nothing → (j : ℕ) (d : Label) → j < length ls → isNamed text name (get_or ls j d) ≡ false) →
-          cond t (At i l.address) (findFrom text name (i + 1) ls) ≡ Nothing → (j : ℕ) (d : Label) → j < suc (length ls) → isNamed text name (get_or (l ∷ ls) j d) ≡ false
+      go : (t : Bool) → is_named text name l ≡ t → (find_from text name (i + 1) ls ≡ Nothing → (j : ℕ) (d : Label) → j < length ls → is_named text name (get_or ls j d) ≡ false) →
+          cond t (At i l.address) (find_from text name (i + 1) ls) ≡ Nothing → (j : ℕ) (d : Label) → j < suc (length ls) → is_named text name (get_or (l ∷ ls) j d) ≡ false
       go true q ih f j d h = clash (sym f)
       go false q ih f zero d h = q
       go false q ih f (suc j) d h = ih f j d (le_of_suc-le-suc h)
@@ -86,24 +86,24 @@ behind Nothing = Nothing
 behind (At i a) = At (i + 1) a
 
 module _ (text name : List ℕ) where
-  from_next : (ls : List Label) (i : ℕ) → findFrom text name (i + 1) ls ≡ behind (findFrom text name i ls)
-  unfolding findFrom
+  from_next : (ls : List Label) (i : ℕ) → find_from text name (i + 1) ls ≡ behind (find_from text name i ls)
+  unfolding find_from
   from_next [] i = refl
-  from_next (l ∷ ls) i = go (isNamed text name l) (from_next ls (i + 1))
+  from_next (l ∷ ls) i = go (is_named text name l) (from_next ls (i + 1))
     where
-      go : (t : Bool) → findFrom text name (i + 1 + 1) ls ≡ behind (findFrom text name (i + 1) ls) →
-          cond t (At (i + 1) l.address) (findFrom text name (i + 1 + 1) ls) ≡ behind (cond t (At i l.address) (findFrom text name (i + 1) ls))
+      go : (t : Bool) → find_from text name (i + 1 + 1) ls ≡ behind (find_from text name (i + 1) ls) →
+          cond t (At (i + 1) l.address) (find_from text name (i + 1 + 1) ls) ≡ behind (cond t (At i l.address) (find_from text name (i + 1) ls))
       go true ih = refl
       go false ih = ih
 
   pub find_none : find text name [] ≡ Nothing
-  unfolding find findFrom
+  unfolding find find_from
   find_none = refl
 
-  pub find-here : (l : Label) (ls : List Label) → isNamed text name l ≡ true → find text name (l ∷ ls) ≡ At 0 l.address
-  unfolding find findFrom
+  pub find-here : (l : Label) (ls : List Label) → is_named text name l ≡ true → find text name (l ∷ ls) ≡ At 0 l.address
+  unfolding find find_from
   find-here l ls e = rw e
 
-  pub find-behind : (l : Label) (ls : List Label) → isNamed text name l ≡ false → find text name (l ∷ ls) ≡ behind (find text name ls)
-  unfolding find findFrom
+  pub find-behind : (l : Label) (ls : List Label) → is_named text name l ≡ false → find text name (l ∷ ls) ≡ behind (find text name ls)
+  unfolding find find_from
   find-behind l ls e = rw e (from_next ls 0)

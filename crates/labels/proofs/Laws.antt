@@ -12,8 +12,8 @@ use Rattle.parser.specs.declared.Reference.TheVariants.{Jmp, CondJmp, Call}
 use Rattle.labels.specs.declared.Label.{Label}
 use Rattle.labels.specs.declared.Open.{Open}
 use Rattle.labels.specs.declared.Found.TheVariants.{Nothing, At}
-use Rattle.labels.specs.Labels.{label, isNamed, find}
-use Rattle.labels.specs.Opens.{referenceCode, referenceOf, openTo, no_open, opens_of}
+use Rattle.labels.specs.Labels.{label, is_named, find}
+use Rattle.labels.specs.Opens.{reference_code, reference_of, open_to, no_open, opens_of}
 use Rattle.labels.proofs.ListLaws.{take-set, take_snoc, drop-next}
 use Rattle.labels.proofs.FindLaws.{found, found-address, passed}
 
@@ -23,16 +23,16 @@ module _ (text name : List ℕ) (ls : List Label) (i a : ℕ) (e : find text nam
   pub find-lt : i < length ls
   find-lt = (found text name ls i a e).lt
 
-  pub find-named : (d : Label) → isNamed text name (get_or ls i d) ≡ true
+  pub find-named : (d : Label) → is_named text name (get_or ls i d) ≡ true
   find-named d = (found text name ls i a e).named d
 
-  pub find_first : (j : ℕ) (d : Label) → j < i → isNamed text name (get_or ls j d) ≡ false
+  pub find_first : (j : ℕ) (d : Label) → j < i → is_named text name (get_or ls j d) ≡ false
   find_first j d h = (found text name ls i a e).earlier j d h
 
   pub find-address : (d : Label) → (get_or ls i d).address ≡ a
   find-address d = found-address text name ls i a e d
 
-pub find-nothing : (text name : List ℕ) (ls : List Label) → find text name ls ≡ Nothing → (j : ℕ) (d : Label) → j < length ls → isNamed text name (get_or ls j d) ≡ false
+pub find-nothing : (text name : List ℕ) (ls : List Label) → find text name ls ≡ Nothing → (j : ℕ) (d : Label) → j < length ls → is_named text name (get_or ls j d) ≡ false
 unfolding find
 find-nothing text name ls e = passed text name ls 0 e
 
@@ -64,17 +64,17 @@ module _ (ps ls ws rs : List ℕ) where
 
 -- ---- open references: an entry stored, an entry read
 
-pub reference-back : (r : Reference) → referenceOf (referenceCode r) ≡ r
-unfolding referenceOf
+pub reference-back : (r : Reference) → reference_of (reference_code r) ≡ r
+unfolding reference_of
 reference-back Jmp = refl
 reference-back CondJmp = refl
 reference-back Call = refl
 
 pub opens-set : (ps ls ws rs : List ℕ) (i p l w : ℕ) (r : Reference) →
-    opens_of (set ps i p) (set ls i l) (set ws i w) (set rs i (referenceCode r)) ≡ set (opens_of ps ls ws rs) i (openTo p l w r)
+    opens_of (set ps i p) (set ls i l) (set ws i w) (set rs i (reference_code r)) ≡ set (opens_of ps ls ws rs) i (open_to p l w r)
 unfolding opens_of
-opens-set (q ∷ ps) (m ∷ ls) (v ∷ ws) (s ∷ rs) zero p l w r = ap (λ (x : Reference). openTo p l w x ∷ opens_of ps ls ws rs) (reference-back r)
-opens-set (q ∷ ps) (m ∷ ls) (v ∷ ws) (s ∷ rs) (suc i) p l w r = ap (λ (x : List Open). openTo q m v (referenceOf s) ∷ x) (opens-set ps ls ws rs i p l w r)
+opens-set (q ∷ ps) (m ∷ ls) (v ∷ ws) (s ∷ rs) zero p l w r = ap (λ (x : Reference). open_to p l w x ∷ opens_of ps ls ws rs) (reference-back r)
+opens-set (q ∷ ps) (m ∷ ls) (v ∷ ws) (s ∷ rs) (suc i) p l w r = ap (λ (x : List Open). open_to q m v (reference_of s) ∷ x) (opens-set ps ls ws rs i p l w r)
 opens-set (q ∷ ps) (m ∷ ls) (v ∷ ws) [] zero p l w r = refl
 opens-set (q ∷ ps) (m ∷ ls) (v ∷ ws) [] (suc i) p l w r = refl
 opens-set (q ∷ ps) (m ∷ ls) [] rs zero p l w r = refl
@@ -84,7 +84,7 @@ opens-set (q ∷ ps) [] ws rs (suc i) p l w r = refl
 opens-set [] ls ws rs i p l w r = refl
 
 pub opens_at : (ps ls ws rs : List ℕ) (i : ℕ) (d : Open) → i < length (opens_of ps ls ws rs) →
-    get_or (opens_of ps ls ws rs) i d ≡ openTo (get_or ps i 0) (get_or ls i 0) (get_or ws i 0) (referenceOf (get_or rs i 0))
+    get_or (opens_of ps ls ws rs) i d ≡ open_to (get_or ps i 0) (get_or ls i 0) (get_or ws i 0) (reference_of (get_or rs i 0))
 unfolding opens_of
 opens_at (p ∷ ps) (l ∷ ls) (w ∷ ws) (r ∷ rs) zero d h = refl
 opens_at (p ∷ ps) (l ∷ ls) (w ∷ ws) (r ∷ rs) (suc i) d h = opens_at ps ls ws rs i d (le_of_suc-le-suc h)
@@ -95,8 +95,8 @@ opens_at [] ls ws rs i d h = absurd (not-suc-le-zero h)
 
 -- `put_open` just after the first n entries
 pub opens-push : (ps ls ws rs : List ℕ) (n p l w : ℕ) (r : Reference) → n < length (opens_of ps ls ws rs) →
-    take (n + 1) (opens_of (set ps n p) (set ls n l) (set ws n w) (set rs n (referenceCode r))) ≡ take n (opens_of ps ls ws rs) ++ (openTo p l w r ∷ [])
-opens-push ps ls ws rs n p l w r h = ap (take (n + 1)) (opens-set ps ls ws rs n p l w r) ∙ take_snoc (opens_of ps ls ws rs) n (openTo p l w r) h
+    take (n + 1) (opens_of (set ps n p) (set ls n l) (set ws n w) (set rs n (reference_code r))) ≡ take n (opens_of ps ls ws rs) ++ (open_to p l w r ∷ [])
+opens-push ps ls ws rs n p l w r h = ap (take (n + 1)) (opens-set ps ls ws rs n p l w r) ∙ take_snoc (opens_of ps ls ws rs) n (open_to p l w r) h
 
 -- what `open_at` answers stands before the entries after it
 pub opens-next : (ps ls ws rs : List ℕ) (i : ℕ) → i < length (opens_of ps ls ws rs) →
@@ -108,5 +108,5 @@ opens-next ps ls ws rs i h = drop-next (opens_of ps ls ws rs) i no_open h
 pub label-fields : (l : Label) → label l.place l.length l.address ≡ l
 label-fields l = refl
 
-pub open-fields : (o : Open) → openTo o.place o.length o.word.0 o.reference ≡ o
+pub open-fields : (o : Open) → open_to o.place o.length o.word.0 o.reference ≡ o
 open-fields o = refl

@@ -6,23 +6,23 @@ use mathlib.Core.List.{List}
 use lib.ListN.{length, get_or, drop, drop_of_length-le}
 use Rattle.labels.specs.declared.Label.{Label}
 use Rattle.labels.specs.declared.Found.TheVariants.{Nothing, At}
-use Rattle.labels.specs.Labels.{isNamed, findFrom, find}
+use Rattle.labels.specs.Labels.{is_named, find_from, find}
 use Rattle.labels.proofs.ListLaws.{drop-next}
 
 module _ (text name : List ℕ) (ls : List Label) where
-  pub scan-start : find text name ls ≡ findFrom text name 0 ls
+  pub scan-start : find text name ls ≡ find_from text name 0 ls
   unfolding find
   scan-start = refl
 
   module _ (i : ℕ) (d : Label) where
-    pub scan-hit : i < length ls → isNamed text name (get_or ls i d) ≡ true → findFrom text name i (drop i ls) ≡ At i (get_or ls i d).address
-    unfolding findFrom
+    pub scan-hit : i < length ls → is_named text name (get_or ls i d) ≡ true → find_from text name i (drop i ls) ≡ At i (get_or ls i d).address
+    unfolding find_from
     scan-hit h e = rw (drop-next ls i d h, e)
 
-    pub scan-miss : i < length ls → isNamed text name (get_or ls i d) ≡ false → findFrom text name i (drop i ls) ≡ findFrom text name (i + 1) (drop (i + 1) ls)
-    unfolding findFrom
+    pub scan-miss : i < length ls → is_named text name (get_or ls i d) ≡ false → find_from text name i (drop i ls) ≡ find_from text name (i + 1) (drop (i + 1) ls)
+    unfolding find_from
     scan-miss h e = rw (drop-next ls i d h, e)
 
-  pub scan-end : (i : ℕ) → length ls ≤ i → findFrom text name i (drop i ls) ≡ Nothing
-  unfolding findFrom
+  pub scan-end : (i : ℕ) → length ls ≤ i → find_from text name i (drop i ls) ≡ Nothing
+  unfolding find_from
   scan-end i h = rw (drop_of_length-le ls h)

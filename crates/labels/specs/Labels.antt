@@ -17,13 +17,13 @@ no_label = label 0 0 0
 unfoldable pub names : List ℕ → ℕ → ℕ → List ℕ → Bool
 names text place size name = cond (leb (place + size) (length text)) (same (take size (drop place text)) name) false
 
-abbrev pub isNamed : List ℕ → List ℕ → Label → Bool
-isNamed text name l = names text l.place l.length name
+abbrev pub is_named : List ℕ → List ℕ → Label → Bool
+is_named text name l = names text l.place l.length name
 
 -- the first of equal names counts, and gives its address; the first of these entries is entry i
-unfoldable pub findFrom : List ℕ → List ℕ → ℕ → List Label → Found
-findFrom text name i [] = Nothing
-findFrom text name i (l ∷ ls) = cond (isNamed text name l) (At i l.address) (findFrom text name (i + 1) ls)
+unfoldable pub find_from : List ℕ → List ℕ → ℕ → List Label → Found
+find_from text name i [] = Nothing
+find_from text name i (l ∷ ls) = cond (is_named text name l) (At i l.address) (find_from text name (i + 1) ls)
 
 unfoldable pub find : List ℕ → List ℕ → List Label → Found
-find text name ls = findFrom text name 0 ls
+find text name ls = find_from text name 0 ls

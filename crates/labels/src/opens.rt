@@ -1,6 +1,6 @@
 // The table of open references. What a reference becomes is kept as a number: 0 JMP, 1 CJP, 2 CALL.
 ghost use Rattle.std.specs.Prelude.{◌≡◌, length, get_or, set};
-ghost use Rattle.labels.specs.Opens.{referenceOf, referenceCode, opens_of, no_open};
+ghost use Rattle.labels.specs.Opens.{reference_of, reference_code, opens_of, no_open};
 
 use crate::Open;
 use crate::arrays::{least, put_byte, put_size, put_word};
@@ -8,7 +8,7 @@ use base::InstructionIndex;
 use parser::Reference;
 
 fn code(reference: Reference) -> u8
-    ensures { result ≡ referenceCode reference }
+    ensures { result ≡ reference_code reference }
 {
     match reference {
         Reference::Jmp => 0,
@@ -19,7 +19,7 @@ fn code(reference: Reference) -> u8
 
 // The reference with this number; a number over 2, which nothing stores, counts as 2.
 fn reference(n: u8) -> Reference
-    ensures { result ≡ referenceOf n }
+    ensures { result ≡ reference_of n }
 {
     match n {
         0 => Reference::Jmp,
@@ -77,7 +77,7 @@ pub fn put_open(
     ensures { (places.new ≡ set places.old i o.place)
         × (lengths.new ≡ set lengths.old i o.length)
         × (words.new ≡ set words.old i o.word.0)
-        × (references.new ≡ set references.old i (referenceCode o.reference)) }
+        × (references.new ≡ set references.old i (reference_code o.reference)) }
 {
     let what = o.reference;
     put_size(places, i, o.place);

@@ -12,7 +12,7 @@ use Rattle.instruction.specs.Decode.{decode}
 use Rattle.printer.proofs.AsciiLaws.{ascii, ascii_append, text-ascii}
 use Rattle.asm.specs.Assemble.{Outcome, accepted, refused}
 use Rattle.pen.proofs.NumberLaws.{hex-ascii, decimal-ascii}
-use Rattle.lister.specs.Listing.{text_of, line, lines_from, twoNumbers, totals, refusal, shown, outcome, listing}
+use Rattle.lister.specs.Listing.{text_of, line, lines_from, two_numbers, totals, refusal, shown, outcome, listing}
 
 told-ascii : (d : Told Instruction) → ascii (text_of d) ≡ true
 unfolding ascii
@@ -28,8 +28,8 @@ unfolding lines_from ascii
 lines-ascii i [] = refl
 lines-ascii i (w ∷ ws) = rw (ascii_append, line-ascii i w) (lines-ascii (i + 1) ws)
 
-two-ascii : (first second : List ℕ) (n m : ℕ) → ascii first ≡ true → ascii second ≡ true → ascii (twoNumbers first n second m) ≡ true
-unfolding twoNumbers ascii
+two-ascii : (first second : List ℕ) (n m : ℕ) → ascii first ≡ true → ascii second ≡ true → ascii (two_numbers first n second m) ≡ true
+unfolding two_numbers ascii
 two-ascii first second n m f s = simp (ascii_append, decimal-ascii, f, s)
 
 shown-ascii : (o : Outcome) → ascii (shown o) ≡ true

@@ -2,22 +2,22 @@
 use mathlib.Core.Path.{◌≡◌, refl}
 use Rattle.base.specs.Bytes.{bytes}
 use Rattle.instruction.specs.Decode.{decode, arm, arms}
-use Rattle.printer.specs.Text.{textIn, digits, decimalOf, immediate_of, registerName, compareName, byteName, operandOf, one, pair, address_of, addressed}
-use Rattle.text.specs.Immediates.{digitOf, immediate}
-use Rattle.text.specs.Parts.{isBlank}
+use Rattle.printer.specs.Text.{text_in, digits, decimal_of, immediate_of, register_name, compare_name, byte_name, operand_of, one, pair, address_of, addressed}
+use Rattle.text.specs.Immediates.{digit_of, immediate}
+use Rattle.text.specs.Parts.{is_blank}
 use Rattle.mnemonics.specs.Mnemonics.{rows, upper, kind_of}
 use Rattle.parser.specs.Operands as Operands
 use Rattle.parser.specs.Parse as Parse
-use Rattle.labels.specs.Labels.{names, findFrom, find}
+use Rattle.labels.specs.Labels.{names, find_from, find}
 use Rattle.asm.specs.Labels.{define, patch}
 use Rattle.asm.specs.Reading.{read}
-use Rattle.asm.specs.Words.{strictOrder, strictWord, wordOf, addWord, addInstruction}
+use Rattle.asm.specs.Words.{strict_order, strict_word, word_of, add_word, add_instruction}
 use Rattle.asm.specs.Work.{says, references, labelled, turn}
 use Rattle.asm.specs.Assemble.{assemble}
 use Rattle.pen.specs.Numbers.{hex, decimal}
-use Rattle.lister.specs.Listing.{line, lines_from, twoNumbers, totals, outcome, listing}
+use Rattle.lister.specs.Listing.{line, lines_from, two_numbers, totals, outcome, listing}
 
 pub example : listing (bytes "; poll\nagain:\nLDB A, B\nEQ A, #0\nCJP again\nMOV PC, C\n")
     ≡ bytes "0000 0088 LDB A, B\n0002 0007 EQ A, #0\n0004 0005 CJP #0\n0006 02D1 MOV PC, C\nwords 4 open 0\n"
-unfolding hex decimal line lines_from twoNumbers totals outcome listing decode arm arms textIn digits decimalOf immediate_of registerName compareName byteName operandOf one pair address_of addressed digitOf immediate isBlank rows upper kind_of Operands.registerNames Operands.register Operands.operand Operands.registerAndOperand Operands.address Parse.takes Parse.mov Parse.compare Parse.transfer Parse.target Parse.meaning Parse.parse names findFrom find define patch read strictOrder strictWord wordOf addWord addInstruction says references labelled turn assemble
+unfolding hex decimal line lines_from two_numbers totals outcome listing decode arm arms text_in digits decimal_of immediate_of register_name compare_name byte_name operand_of one pair address_of addressed digit_of immediate is_blank rows upper kind_of Operands.register_names Operands.register Operands.operand Operands.register_and_operand Operands.address Parse.takes Parse.mov Parse.compare Parse.transfer Parse.target Parse.meaning Parse.parse names find_from find define patch read strict_order strict_word word_of add_word add_instruction says references labelled turn assemble
 example = refl

@@ -15,7 +15,7 @@ use Rattle.printer.specs.Print.{placed}
 use Rattle.printer.proofs.Laws.{text-length}
 use Rattle.asm.specs.Assemble.{Outcome, accepted, refused, words_of}
 use Rattle.pen.proofs.NumberLaws.{hex-length, decimal-length}
-use Rattle.lister.specs.Listing.{text_of, line, lines_from, twoNumbers, totals, refusal, shown, outcome, listing, listed, listedBuffer}
+use Rattle.lister.specs.Listing.{text_of, line, lines_from, two_numbers, totals, refusal, shown, outcome, listing, listed, listed_buffer}
 
 module _ (source : List ℕ) where
   pub listed-fits : (room : ℕ) → length (listing source) ≤ room → listed source room ≡ is (length (listing source))
@@ -26,12 +26,12 @@ module _ (source : List ℕ) where
   unfolding listed
   listed-19 room h = rw (lt-leb _ _ h)
 
-  pub buffer-fits : (buffer : List ℕ) → length (listing source) ≤ length buffer → listedBuffer source buffer ≡ placed (listing source) buffer 0
-  unfolding listedBuffer
+  pub buffer-fits : (buffer : List ℕ) → length (listing source) ≤ length buffer → listed_buffer source buffer ≡ placed (listing source) buffer 0
+  unfolding listed_buffer
   buffer-fits buffer h = rw (le-leb _ _ h)
 
-  pub buffer-19 : (buffer : List ℕ) → length buffer < length (listing source) → listedBuffer source buffer ≡ buffer
-  unfolding listedBuffer
+  pub buffer-19 : (buffer : List ℕ) → length buffer < length (listing source) → listed_buffer source buffer ≡ buffer
+  unfolding listed_buffer
   buffer-19 buffer h = rw (lt-leb _ _ h)
 
 -- ---- lengths
@@ -49,8 +49,8 @@ unfolding lines_from
 lines-length i [] = zero-le
 lines-length i (w ∷ ws) = rw length-append (omega (arith, line-length i w, lines-length (i + 1) ws))
 
-two-length : (first second : List ℕ) (n m : ℕ) → length (twoNumbers first n second m) ≤ length first + length second + 41
-unfolding twoNumbers
+two-length : (first second : List ℕ) (n m : ℕ) → length (two_numbers first n second m) ≤ length first + length second + 41
+unfolding two_numbers
 two-length first second n m = simp length-append (omega (arith, decimal-length n, decimal-length m))
 
 totals-length : (words waiting : ℕ) → length (totals words waiting) ≤ 53

@@ -15,19 +15,19 @@ use Rattle.instruction.proofs.RoundTrip.{round_trip}
 use Rattle.printer.proofs.Laws.{noop-text, text-some}
 use Rattle.asm.specs.Work.{task, Work}
 use Rattle.asm.specs.Assemble.{accepted, refused, assemble}
-use Rattle.asm.specs.Meaning.{Meant, instruction, never, meaning, wordOf, nevers}
+use Rattle.asm.specs.Meaning.{Meant, instruction, never, meaning, word_of, nevers}
 use Rattle.asm.specs.Strict.{AllSay}
 use Rattle.asm.proofs.Items.{refused-not}
 use Rattle.asm.proofs.Slots.{map-length}
 use Rattle.asm.proofs.Sound.{words-meant, open-meant, strict-sound}
 use Rattle.lister.specs.Listing.{line, lines_from, totals, outcome, listing}
-use Rattle.lister.specs.Said.{meantFrom, HaveTexts, ListingMeans}
+use Rattle.lister.specs.Said.{meant_from, HaveTexts, ListingMeans}
 
 zero-decodes : decode 0 ≡ is Noop
 zero-decodes = round_trip Noop refl refl
 
-lines-meant : (i : ℕ) (ms : List Meant) → AllSay ms (map wordOf ms) → lines_from i (map wordOf ms) ≡ meantFrom i ms
-unfolding lines_from line meantFrom
+lines-meant : (i : ℕ) (ms : List Meant) → AllSay ms (map word_of ms) → lines_from i (map word_of ms) ≡ meant_from i ms
+unfolding lines_from line meant_from
 lines-meant i [] a = refl
 lines-meant i (instruction j ∷ ms) a = rw (a.0, lines-meant (i + 1) ms a.1)
 lines-meant i (never ∷ ms) a = rw (zero-decodes, noop-text, lines-meant (i + 1) ms a.1)
@@ -58,7 +58,7 @@ listing-means source w e =
     let said = (strict-sound source 32767 1024 w q).says in
     record {
       lines =
-          rw (e, words, open-meant t w q, map-length wordOf ms)
+          rw (e, words, open-meant t w q, map-length word_of ms)
           (ap (λ (ls : List ℕ). ls ++ totals (length ms) (nevers ms)) (lines-meant 0 ms (subst (AllSay ms) words said)));
       texts = texts-meant ms w.words said;
     }

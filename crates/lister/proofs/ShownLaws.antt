@@ -14,7 +14,7 @@ use Rattle.asm.specs.Work.{task}
 use Rattle.asm.specs.Assemble.{Outcome, accepted, refused, assemble, words_of, filled, report, reported}
 use Rattle.asm.proofs.FillLaws.{filled-first, filled-length}
 use Rattle.lister.specs.Listing.{shown, outcome, listing}
-use Rattle.lister.specs.Parts.{Tells, shownOf, wordCount}
+use Rattle.lister.specs.Parts.{Tells, shown_of, word_count}
 
 -- ---- what the assembler tells
 
@@ -34,7 +34,7 @@ tells source a room labels h r l e f = rw (le-leb (length source) 65536 h, ← r
 
 -- ---- what is shown of it
 
-told-shown : (a : Assembled) (o : Outcome) (words : List ℕ) → reported a ≡ report o → take (length (words_of o)) words ≡ words_of o → shownOf a words ≡ shown o
+told-shown : (a : Assembled) (o : Outcome) (words : List ℕ) → reported a ≡ report o → take (length (words_of o)) words ≡ words_of o → shown_of a words ≡ shown o
 told-shown (Assembled.Accepted n labels left) (accepted w) words e f =
     let size : n ≡ length w.words = cc in
     let waiting : left ≡ length w.waiting = cc in
@@ -46,15 +46,15 @@ told-shown (Assembled.Refused r p) (refused k l) words e f =
     let place : p ≡ l = cc in
     rw (number, place)
 
-told-count : (a : Assembled) (o : Outcome) → reported a ≡ report o → wordCount a ≡ length (words_of o)
+told-count : (a : Assembled) (o : Outcome) → reported a ≡ report o → word_count a ≡ length (words_of o)
 told-count (Assembled.Accepted n labels left) (accepted w) e = cc
 told-count (Assembled.Accepted n labels left) (refused k l) e = absurd (let z : ◌≡◌ {A = ℕ} 0 1 = cc in omega arith)
 told-count (Assembled.Refused r p) (accepted w) e = absurd (let z : ◌≡◌ {A = ℕ} 0 1 = cc in omega arith)
 told-count (Assembled.Refused r p) (refused k l) e = refl
 
-pub words-within : (source words : List ℕ) (a : Assembled) → Tells a words (outcome source) → wordCount a ≤ length words
+pub words-within : (source words : List ℕ) (a : Assembled) → Tells a words (outcome source) → word_count a ≤ length words
 words-within source words a t = rw (told-count a (outcome source) t.answer) t.room
 
-pub shown-listing : (source words : List ℕ) (a : Assembled) → Tells a words (outcome source) → shownOf a words ≡ listing source
+pub shown-listing : (source words : List ℕ) (a : Assembled) → Tells a words (outcome source) → shown_of a words ≡ listing source
 unfolding listing
 shown-listing source words a t = told-shown a (outcome source) words t.answer t.first

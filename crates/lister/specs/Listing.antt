@@ -29,14 +29,14 @@ lines_from i [] = []
 lines_from i (w ∷ ws) = line i w ++ lines_from (i + 1) ws
 
 -- a line that says two numbers
-unfoldable pub twoNumbers : List ℕ → ℕ → List ℕ → ℕ → List ℕ
-twoNumbers first n second m = first ++ decimal n ++ second ++ decimal m ++ bytes "\n"
+unfoldable pub two_numbers : List ℕ → ℕ → List ℕ → ℕ → List ℕ
+two_numbers first n second m = first ++ decimal n ++ second ++ decimal m ++ bytes "\n"
 
 unfoldable pub totals : ℕ → ℕ → List ℕ
-totals words waiting = twoNumbers (bytes "words ") words (bytes " open ") waiting
+totals words waiting = two_numbers (bytes "words ") words (bytes " open ") waiting
 
 unfoldable pub refusal : ℕ → ℕ → List ℕ
-refusal number place = twoNumbers (bytes "refused ") number (bytes " line ") place
+refusal number place = two_numbers (bytes "refused ") number (bytes " line ") place
 
 -- ---- the whole
 
@@ -58,5 +58,5 @@ unfoldable pub listed : List ℕ → ℕ → Told ℕ
 listed source room = cond (leb (length (listing source)) room) (is (length (listing source))) (no 19)
 
 -- the bytes past the listing stay
-unfoldable pub listedBuffer : List ℕ → List ℕ → List ℕ
-listedBuffer source buffer = cond (leb (length (listing source)) (length buffer)) (placed (listing source) buffer 0) buffer
+unfoldable pub listed_buffer : List ℕ → List ℕ → List ℕ
+listed_buffer source buffer = cond (leb (length (listing source)) (length buffer)) (placed (listing source) buffer 0) buffer

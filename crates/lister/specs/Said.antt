@@ -11,18 +11,18 @@ use Rattle.instruction.specs.Decode.{decode}
 use Rattle.printer.specs.Text.{text}
 use Rattle.asm.specs.Work.{Work}
 use Rattle.asm.specs.Assemble.{accepted}
-use Rattle.asm.specs.Meaning.{Meant, instruction, never, meaning, wordOf, nevers}
+use Rattle.asm.specs.Meaning.{Meant, instruction, never, meaning, word_of, nevers}
 use Rattle.pen.specs.Numbers.{hex}
 use Rattle.lister.specs.Listing.{totals, outcome, listing}
 
-abbrev pub meantText : Meant → List ℕ
-meantText (instruction i) = text i
-meantText never = bytes "NOOP"
+abbrev pub meant_text : Meant → List ℕ
+meant_text (instruction i) = text i
+meant_text never = bytes "NOOP"
 
 -- the lines of what is meant, the first of them being instruction i
-unfoldable pub meantFrom : ℕ → List Meant → List ℕ
-meantFrom i [] = []
-meantFrom i (m ∷ ms) = hex (doubled i) ++ bytes " " ++ hex (wordOf m) ++ bytes " " ++ meantText m ++ bytes "\n" ++ meantFrom (i + 1) ms
+unfoldable pub meant_from : ℕ → List Meant → List ℕ
+meant_from i [] = []
+meant_from i (m ∷ ms) = hex (doubled i) ++ bytes " " ++ hex (word_of m) ++ bytes " " ++ meant_text m ++ bytes "\n" ++ meant_from (i + 1) ms
 
 -- each word decodes to an instruction, whose text is not empty
 abbrev pub HaveTexts : List ℕ → Type 0
@@ -30,7 +30,7 @@ HaveTexts [] = Unit {0}
 HaveTexts (w ∷ ws) = ((i : Instruction) × ((decode w ≡ is i) × (0 < length (text i)))) × HaveTexts ws
 
 pub record Shows (source : List ℕ) (w : Work) : Type 0 where
-  pub lines : listing source ≡ meantFrom 0 (meaning source) ++ totals (length (meaning source)) (nevers (meaning source))
+  pub lines : listing source ≡ meant_from 0 (meaning source) ++ totals (length (meaning source)) (nevers (meaning source))
   pub texts : HaveTexts w.words
 
 abbrev pub ListingMeans : Type 0

@@ -1,6 +1,6 @@
 // The lines of a listing, each with its byte 10.
 ghost use Rattle.std.specs.Prelude.{◌≡◌, ◌≤◌, length};
-ghost use Rattle.lister.specs.Listing.{line, lines_from, twoNumbers, totals, refusal};
+ghost use Rattle.lister.specs.Listing.{line, lines_from, two_numbers, totals, refusal};
 ghost use Rattle.pen.specs.Pen.{pen, wrote};
 
 use crate::decoding::put_word_text;
@@ -36,7 +36,7 @@ pub fn lines(out: &mut [u8], at: usize, words: &[u16]) -> usize
 
 // A line that says two numbers.
 fn two_numbers(out: &mut [u8], at: usize, first: &[u8], n: usize, second: &[u8], m: usize) -> usize
-    ensures { pen out.new result ≡ wrote (pen out.old at) (twoNumbers first.now n second.now m) }
+    ensures { pen out.new result ≡ wrote (pen out.old at) (two_numbers first.now n second.now m) }
 {
     let p = put_all(out, at, first);
     let p = decimal(out, p, n);

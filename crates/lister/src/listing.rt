@@ -1,8 +1,8 @@
 // The listing of a text into a lent buffer.
 ghost use Rattle.std.specs.Prelude.{◌≡◌, ◌≤◌, length};
 ghost use Rattle.printer.specs.Print.{printed};
-ghost use Rattle.lister.specs.Listing.{outcome, listing, listed, listedBuffer};
-ghost use Rattle.lister.specs.Parts.{Tells, shownOf, wordCount};
+ghost use Rattle.lister.specs.Listing.{outcome, listing, listed, listed_buffer};
+ghost use Rattle.lister.specs.Parts.{Tells, shown_of, word_count};
 ghost use Rattle.pen.specs.Pen.{pen, wrote};
 
 use crate::lines::{lines, refusal, totals};
@@ -25,9 +25,9 @@ fn assembled(text: &[u8], words: &mut [u16]) -> Assembled
 
 // The listing from byte 0 on.
 fn show(a: Assembled, words: &[u16], out: &mut [u8]) -> usize
-    requires a_in_bounds { wordCount a ≤ length words.now }
+    requires a_in_bounds { word_count a ≤ length words.now }
     requires words_len_bound { length words.now ≤ 32767 }
-    ensures { pen out.new result ≡ wrote (pen out.old 0) (shownOf a words.now) }
+    ensures { pen out.new result ≡ wrote (pen out.old 0) (shown_of a words.now) }
 {
     match a {
         Assembled::Accepted(n, _, waiting) => {
@@ -42,7 +42,7 @@ fn show(a: Assembled, words: &[u16], out: &mut [u8]) -> usize
 // 1,212,432 bytes there is room for every listing.
 pub fn list(text: &[u8], out: &mut [u8]) -> Printed
     ensures result_value { printed result ≡ listed text.now (length out.old) }
-    ensures out_after { out.new ≡ listedBuffer text.now out.old }
+    ensures out_after { out.new ≡ listed_buffer text.now out.old }
     ensures text_len_bound { length (listing text.now) ≤ 1212432 }
 {
     let mut words = [0u16; 32767];

@@ -8,7 +8,7 @@ use native.Mathlib.Omega as Omega
 use Rattle.base.specs.Choice.{cond}
 use Rattle.base.specs.Told.{Told, is, no, ◌>>=◌}
 use Rattle.base.specs.Words.{low_of}
-use Rattle.base.specs.Addresses.{basePlusShift, raisedPc, addressOr}
+use Rattle.base.specs.Addresses.{base_plus_shift, raised_pc, address_or}
 use Rattle.base.specs.declared.addresses.Reached.{Reached}
 use Rattle.base.specs.declared.addresses.Reached.TheVariants.{At, Past}
 use Rattle.base.proofs.ToldLaws.{Numbered}
@@ -21,15 +21,15 @@ use Rattle.instruction.specs.declared.ArithOp.{ArithOp}
 use Rattle.instruction.specs.declared.ArithOp.TheVariants.{Add, Sub, Mul, Div}
 use Rattle.instruction.specs.declared.Instruction.{Instruction}
 use Rattle.instruction.specs.declared.Instruction.TheVariants.{Noop, Mov, MovShift, Arith, ArithRegReg, LdrStr, LdbStb, Cpy, Jmp, CondJmp, Cmp, CallRet}
-use Rattle.arithmetic.specs.Operators.{arithResult, arithmeticResult}
+use Rattle.arithmetic.specs.Operators.{arith_result, arithmetic_result}
 use Rattle.arithmetic.proofs.Laws.{arith-numbered, arithmetic-numbered}
 use Rattle.arithmetic.specs.Compares.{compare}
 use Rattle.arithmetic.specs.Flags.{compared, failed}
 use Rattle.arithmetic.specs.Shifts.{moved}
 use Rattle.arithmetic.specs.Totals.{remainder}
 use Rattle.map.specs.declared.Map.{Map}
-use Rattle.memory.specs.Bytes.{Lent, readByte}
-use Rattle.memory.specs.Words.{Reading, aWord, no_word, readWord, Ending, Decided, byteDecision, wordDecision}
+use Rattle.memory.specs.Bytes.{Lent, read_byte}
+use Rattle.memory.specs.Words.{Reading, a_word, no_word, read_word, Ending, Decided, byte_decision, word_decision}
 use Rattle.memory.specs.Words as memory
 use Rattle.memory.proofs.Decisions.{byte-numbered, word-numbered}
 use Rattle.memory.proofs.WordLaws.{read-numbered}
@@ -39,17 +39,17 @@ use Rattle.memory.specs.declared.Changes.{Changes}
 use Rattle.memory.specs.declared.Changes.TheVariants.{Nothing}
 use Rattle.machine.specs.Answers.{Reply, Continue, Debug, Stop}
 use Rattle.machine.specs.Registers.{get, put, operand, flag}
-use Rattle.machine.specs.Acts.{Act, next, jump, onward, noop, mov, movShift, result, atOldSp, kept, arith, arithRegReg, marked, cmp, jmp, condJmp, call, callRet, wordLoaded, byteLoaded, fault, ended, storing, word_at, byte_at, addressed, copied, cpy, act}
+use Rattle.machine.specs.Acts.{Act, next, jump, onward, noop, mov, mov_shift, result, at_old_sp, kept, arith, arith_reg_reg, marked, cmp, jmp, cond_jmp, call, call_ret, word_loaded, byte_loaded, fault, ended, storing, word_at, byte_at, addressed, copied, cpy, act}
 use Rattle.machine.specs.Plan.{Planned, plans, refusal, raised, finished, decoded, fetched, plan}
-use Rattle.machine.specs.Stores.{Storing, nothing, oneByte, one_word, atAddress, copyTo, remainderTo, storingOf}
+use Rattle.machine.specs.Stores.{Storing, nothing, one_byte, one_word, at_address, copy_to, remainder_to, storing_of}
 use Rattle.machine.specs.declared.Machine.{Machine}
 use Rattle.machine.specs.declared.Registers.{Registers}
 
 -- what is stored, as memory decides it
-abbrev pub changesOf : Map → Lent → Storing → Changes
-changesOf m b nothing = Nothing
-changesOf m b (oneByte a v) = (byteDecision m b a v).changes
-changesOf m b (one_word a w) = (wordDecision m b a w).changes
+abbrev pub changes_of : Map → Lent → Storing → Changes
+changes_of m b nothing = Nothing
+changes_of m b (one_byte a v) = (byte_decision m b a v).changes
+changes_of m b (one_word a w) = (word_decision m b a w).changes
 
 -- three properties: of answers, of registers, of what is stored; and what every plan needs of the first two
 pub record Properties (m : Machine) : Type 1 where
@@ -70,7 +70,7 @@ module _ (m : Machine) (b : Lent) (properties : Properties m) where
   s = m.registers
 
   abbrev pub StoresOf : Storing → Type 0
-  StoresOf x = Stores (changesOf m.map b x)
+  StoresOf x = Stores (changes_of m.map b x)
 
   -- ---- what an act gives, and what a plan gives
 
@@ -101,21 +101,21 @@ module _ (m : Machine) (b : Lent) (properties : Properties m) where
   result-good d c (is v) k h = (continues, one-put d v, h)
   result-good d c (no n) k h = (omega (Omega.arith, k.0), omega (Omega.arith, k.1))
 
-  kept-stores : (d : Register) (o : Operand) (op : ArithOp) → StoresOf (storingOf m b (Arith d o op))
+  kept-stores : (d : Register) (o : Operand) (op : ArithOp) → StoresOf (storing_of m b (Arith d o op))
       → Stores (kept m.map b s op (get s d) (operand s o))
-  unfolding storingOf kept remainderTo atOldSp
+  unfolding storing_of kept remainder_to at_old_sp
   kept-stores d o Add h = h
   kept-stores d o Sub h = h
   kept-stores d o Mul h = h
   kept-stores d o Div h = go (flag s 1) (remainder (get s d) (operand s o)) h
     where
-      go : (t : Bool) (x : Told ℕ) → StoresOf (cond t (remainderTo s x) nothing) → Stores (cond t (atOldSp m.map b s x) Nothing)
+      go : (t : Bool) (x : Told ℕ) → StoresOf (cond t (remainder_to s x) nothing) → Stores (cond t (at_old_sp m.map b s x) Nothing)
       go true (is v) h = h
       go true (no n) h = h
       go false x h = h
 
-  cond-jmp-good : (o : Operand) → Stores Nothing → Good (condJmp s o)
-  unfolding condJmp jmp marked
+  cond-jmp-good : (o : Operand) → Stores Nothing → Good (cond_jmp s o)
+  unfolding cond_jmp jmp marked
   cond-jmp-good o h = go (flag s 3)
     where
       go : (t : Bool) → Good (cond t (jmp (marked s false) o) (onward s))
@@ -124,22 +124,22 @@ module _ (m : Machine) (b : Lent) (properties : Properties m) where
 
   call-good : (address : ℕ) → Stores Nothing → Good (call s address)
   unfolding call
-  call-good address h = go (raisedPc (get s PC))
+  call-good address h = go (raised_pc (get s PC))
     where
-      go : (x : Reached) → Good (addressOr 9 x >>= λ n. is (jump (put (put s PC address) M n)))
+      go : (x : Reached) → Good (address_or 9 x >>= λ n. is (jump (put (put s PC address) M n)))
       go (At n) = (puts (put s PC address) M n (one-put PC address), h)
       go Past = (omega Omega.arith, omega Omega.arith)
 
   -- ---- loads and stores
 
-  word-loaded-good : (r : Register) (x : Told Reading) → Numbered 3 3 x → Stores Nothing → Good (wordLoaded s r x)
-  unfolding wordLoaded
-  word-loaded-good r (is (aWord w)) k h = (continues, one-put r w, h)
+  word-loaded-good : (r : Register) (x : Told Reading) → Numbered 3 3 x → Stores Nothing → Good (word_loaded s r x)
+  unfolding word_loaded
+  word-loaded-good r (is (a_word w)) k h = (continues, one-put r w, h)
   word-loaded-good r (is no_word) k h = (continues, starts, h)
   word-loaded-good r (no n) k h = (omega (Omega.arith, k.0), omega (Omega.arith, k.1))
 
-  byte-loaded-good : (r : Register) (x : Read) → Stores Nothing → Good (byteLoaded s r x)
-  unfolding byteLoaded
+  byte-loaded-good : (r : Register) (x : Read) → Stores Nothing → Good (byte_loaded s r x)
+  unfolding byte_loaded
   byte-loaded-good r (Byte v p) h = (continues, one-put r v, h)
   byte-loaded-good r Unmapped h = (continues, starts, h)
 
@@ -156,61 +156,61 @@ module _ (m : Machine) (b : Lent) (properties : Properties m) where
       go (is memory.failed) k = (continues, fault-held, h)
       go (no n) k = (omega (Omega.arith, k.0), omega (Omega.arith, k.1))
 
-  byte-good : (a v : ℕ) → StoresOf (oneByte a v) → Good (storing s (byteDecision m.map b a v))
-  byte-good a v h = storing-good (byteDecision m.map b a v) (byte-numbered m.map b a v) h
+  byte-good : (a v : ℕ) → StoresOf (one_byte a v) → Good (storing s (byte_decision m.map b a v))
+  byte-good a v h = storing-good (byte_decision m.map b a v) (byte-numbered m.map b a v) h
 
   -- an act at an address, where there is such an address
-  addressed-good : (a : Register) (shift : ℕ) (acts : ℕ → Told Act) → ((n : ℕ) → basePlusShift (get s a) shift ≡ At n → Good (acts n))
+  addressed-good : (a : Register) (shift : ℕ) (acts : ℕ → Told Act) → ((n : ℕ) → base_plus_shift (get s a) shift ≡ At n → Good (acts n))
       → Good (addressed s a shift acts)
   unfolding addressed
-  addressed-good a shift acts good = go (basePlusShift (get s a) shift) refl
+  addressed-good a shift acts good = go (base_plus_shift (get s a) shift) refl
     where
-      go : (x : Reached) → basePlusShift (get s a) shift ≡ x → Good (addressOr 3 x >>= acts)
+      go : (x : Reached) → base_plus_shift (get s a) shift ≡ x → Good (address_or 3 x >>= acts)
       go (At n) e = good n e
       go Past e = (omega Omega.arith, omega Omega.arith)
 
   -- what it stores is stored there
-  stored_there : (storing : ℕ → Storing) {x : Reached} {n : ℕ} → x ≡ At n → StoresOf (atAddress x storing) → StoresOf (storing n)
-  unfolding atAddress
-  stored_there storing e h = subst (λ (x : Reached). StoresOf (atAddress x storing)) e h
+  stored_there : (storing : ℕ → Storing) {x : Reached} {n : ℕ} → x ≡ At n → StoresOf (at_address x storing) → StoresOf (storing n)
+  unfolding at_address
+  stored_there storing e h = subst (λ (x : Reached). StoresOf (at_address x storing)) e h
 
   str-good : (r : Register) (a : ℕ) → StoresOf (one_word a (get s r)) → Good (word_at m.map b s r true a)
   unfolding word_at
-  str-good r a h = storing-good (wordDecision m.map b a (get s r)) (word-numbered m.map b a (get s r)) h
+  str-good r a h = storing-good (word_decision m.map b a (get s r)) (word-numbered m.map b a (get s r)) h
 
   ldr-good : (r : Register) → Stores Nothing → (a : ℕ) → Good (word_at m.map b s r false a)
   unfolding word_at
-  ldr-good r h a = word-loaded-good r (readWord m.map b a) (read-numbered m.map b a) h
+  ldr-good r h a = word-loaded-good r (read_word m.map b a) (read-numbered m.map b a) h
 
-  stb-good : (r : Register) (a : ℕ) → StoresOf (oneByte a (low_of (get s r))) → Good (byte_at m.map b s r true a)
+  stb-good : (r : Register) (a : ℕ) → StoresOf (one_byte a (low_of (get s r))) → Good (byte_at m.map b s r true a)
   unfolding byte_at
   stb-good r a h = byte-good a (low_of (get s r)) h
 
   ldb-good : (r : Register) → Stores Nothing → (a : ℕ) → Good (byte_at m.map b s r false a)
   unfolding byte_at
-  ldb-good r h a = byte-loaded-good r (readByte m.map b a) h
+  ldb-good r h a = byte-loaded-good r (read_byte m.map b a) h
 
-  copied-good : (to : ℕ) (x : Read) → StoresOf (copyTo to x) → Good (copied m.map b s to x)
-  unfolding copied copyTo
+  copied-good : (to : ℕ) (x : Read) → StoresOf (copy_to to x) → Good (copied m.map b s to x)
+  unfolding copied copy_to
   copied-good to (Byte v p) h = byte-good to v h
   copied-good to Unmapped h = (continues, fault-held, h)
 
   -- ---- all twelve, where the property holds of what the instruction stores
 
-  pub act-good : (i : Instruction) → StoresOf (storingOf m b i) → Good (act m b i)
-  unfolding act storingOf noop mov movShift arith arithRegReg marked cmp jmp callRet cpy
+  pub act-good : (i : Instruction) → StoresOf (storing_of m b i) → Good (act m b i)
+  unfolding act storing_of noop mov mov_shift arith arith_reg_reg marked cmp jmp call_ret cpy
   act-good Noop h = (noop-answers m.mode.debug, starts, h)
   act-good (Mov d o) h = (continues, one-put d (operand s o), h)
   act-good (MovShift d amount left imm) h = (continues, one-put d (moved (get s d) amount left imm), h)
-  act-good (Arith d o op) h = result-good d (kept m.map b s op (get s d) (operand s o)) (arithResult op (get s d) (operand s o)) (arith-numbered op (get s d) (operand s o)) (kept-stores d o op h)
-  act-good (ArithRegReg d x y op) h = result-good d Nothing (arithmeticResult op (get s x) (get s y)) (arithmetic-numbered op (get s x) (get s y)) h
+  act-good (Arith d o op) h = result-good d (kept m.map b s op (get s d) (operand s o)) (arith_result op (get s d) (operand s o)) (arith-numbered op (get s d) (operand s o)) (kept-stores d o op h)
+  act-good (ArithRegReg d x y op) h = result-good d Nothing (arithmetic_result op (get s x) (get s y)) (arithmetic-numbered op (get s x) (get s y)) h
   act-good (LdrStr r a true shift) h =
       addressed-good a shift (word_at m.map b s r true) (λ n e. str-good r n (stored_there (λ k. one_word k (get s r)) e h))
   act-good (LdrStr r a false shift) h = addressed-good a shift (word_at m.map b s r false) (λ n e. ldr-good r h n)
   act-good (LdbStb r a true shift) h =
-      addressed-good a shift (byte_at m.map b s r true) (λ n e. stb-good r n (stored_there (λ k. oneByte k (low_of (get s r))) e h))
+      addressed-good a shift (byte_at m.map b s r true) (λ n e. stb-good r n (stored_there (λ k. one_byte k (low_of (get s r))) e h))
   act-good (LdbStb r a false shift) h = addressed-good a shift (byte_at m.map b s r false) (λ n e. ldb-good r h n)
-  act-good (Cpy x y) h = copied-good (get s y) (readByte m.map b (get s x)) h
+  act-good (Cpy x y) h = copied-good (get s y) (read_byte m.map b (get s x)) h
   act-good (Jmp o) h = (one-put PC (operand s o), h)
   act-good (CondJmp o) h = cond-jmp-good o h
   act-good (Cmp r o op) h = (continues, one-put FLAGS (compared (get s FLAGS) (compare op (get s r) (operand s o))), h)
@@ -222,7 +222,7 @@ module _ (m : Machine) (b : Lent) (properties : Properties m) where
   -- PC is raised, or the plan is refused
   pub finished-good : (x : Told Act) → Good x → GoodPlan (finished s x)
   unfolding finished raised refusal
-  finished-good (is (next a t c)) g = go (raisedPc (get t PC))
+  finished-good (is (next a t c)) g = go (raised_pc (get t PC))
     where
       go : (r : Reached) → GoodPlan (raised s a t c r)
       go (At pc) = (g.0, puts t PC pc g.1, g.2)
@@ -234,12 +234,12 @@ module _ (m : Machine) (b : Lent) (properties : Properties m) where
   module _ (all : (x : Storing) → StoresOf x) where
     decoded-good : (x : Told Instruction) → Numbered 4 6 x → GoodPlan (decoded m b x)
     unfolding decoded refusal
-    decoded-good (is i) k = finished-good (act m b i) (act-good i (all (storingOf m b i)))
+    decoded-good (is i) k = finished-good (act m b i) (act-good i (all (storing_of m b i)))
     decoded-good (no n) k = (refl, omega (Omega.arith, k.0), omega (Omega.arith, k.1))
 
     fetched-good : (x : Told Reading) → Numbered 3 3 x → GoodPlan (fetched m b x)
     unfolding fetched refusal
-    fetched-good (is (aWord w)) k = decoded-good (decode w) (decode-numbered w)
+    fetched-good (is (a_word w)) k = decoded-good (decode w) (decode-numbered w)
     fetched-good (is no_word) k = (refl, omega Omega.arith, omega Omega.arith)
     fetched-good (no n) k = (refl, omega (Omega.arith, k.0), omega (Omega.arith, k.1))
 
@@ -247,9 +247,9 @@ module _ (m : Machine) (b : Lent) (properties : Properties m) where
     unfolding plan
     plan-good = go (flag s 0) stops
       where
-        go : (t : Bool) → (t ≡ true → Answered Stop) → GoodPlan (cond t (plans (is Stop) s Nothing) (fetched m b (readWord m.map b (get s PC))))
+        go : (t : Bool) → (t ≡ true → Answered Stop) → GoodPlan (cond t (plans (is Stop) s Nothing) (fetched m b (read_word m.map b (get s PC))))
         go true h = (h refl, starts, all nothing)
-        go false h = fetched-good (readWord m.map b (get s PC)) (read-numbered m.map b (get s PC))
+        go false h = fetched-good (read_word m.map b (get s PC)) (read-numbered m.map b (get s PC))
 
     -- accepted or refused
     pub plan-gives : Held (plan m b).registers × Stores (plan m b).changes

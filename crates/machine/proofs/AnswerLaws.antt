@@ -1,6 +1,6 @@
 -- Two answers of a step, two plans, and two answers with the machine after them, that are told alike are one: a refusal by its number. Assumes nothing.
 use mathlib.Core.Path.{◌≡◌, refl, sym, ap}
-use Rattle.base.specs.Numbers.{number_of, answerNumber}
+use Rattle.base.specs.Numbers.{number_of, answer_number}
 use Rattle.base.specs.Told.{Told, is, no}
 use Rattle.base.specs.declared.refusals.Refusal.{Refusal}
 use Rattle.base.proofs.Laws.{answer-one, number-one}
@@ -59,5 +59,5 @@ planned-one p q e =
 pub stepped-one : (p q : Stepped) → answered p.answer ≡ answered q.answer → p.machine ≡ q.machine → p ≡ q
 stepped-one p q e f = λ i. record { answer = answered-one p.answer q.answer e i; machine = f i }
 
-pub changed-one : (p q : Changed) → answerNumber p.answer ≡ answerNumber q.answer → p.machine ≡ q.machine → p ≡ q
+pub changed-one : (p q : Changed) → answer_number p.answer ≡ answer_number q.answer → p.machine ≡ q.machine → p ≡ q
 changed-one p q e f = λ i. record { answer = answer-one p.answer q.answer e i; machine = f i }

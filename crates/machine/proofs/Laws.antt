@@ -8,7 +8,7 @@ use native.Mathlib.Omega.{arith}
 use lib.ListN.{length}
 use Rattle.base.specs.Choice.{cond}
 use Rattle.base.specs.Told.{Told, is, no}
-use Rattle.base.specs.Addresses.{raisedPc}
+use Rattle.base.specs.Addresses.{raised_pc}
 use Rattle.base.specs.declared.addresses.Reached.TheVariants.{At}
 use Rattle.base.proofs.AddressLaws.{reached-at}
 use Rattle.base.proofs.ToldLaws.{is-not-no, Numbered}
@@ -17,7 +17,7 @@ use Rattle.instruction.specs.declared.Register.TheVariants.{PC}
 use Rattle.instruction.specs.declared.Instruction.TheVariants.{Noop}
 use Rattle.map.proofs.Laws.{valid-length}
 use Rattle.memory.specs.Bytes.{Lent}
-use Rattle.memory.specs.Words.{aWord, readWord, made}
+use Rattle.memory.specs.Words.{a_word, read_word, made}
 use Rattle.memory.specs.declared.Changes.TheVariants.{Nothing}
 use Rattle.memory.proofs.Laws.{SameLengths, same-lengths}
 use Rattle.memory.proofs.Decisions.{made-lengths, nothing-made}
@@ -127,7 +127,7 @@ module _ (m : Machine) (b : Lent) where
   -- ---- Noop raises PC, and does nothing else
 
   pub step-noop : (w n : ℕ) → valid m b.dev ≡ true → flag m.registers 0 ≡ false
-      → readWord m.map b (get m.registers PC) ≡ is (aWord w) → decode w ≡ is Noop → raisedPc (get m.registers PC) ≡ At n
+      → read_word m.map b (get m.registers PC) ≡ is (a_word w) → decode w ≡ is Noop → raised_pc (get m.registers PC) ≡ At n
       → step m b ≡ after (is (cond m.mode.debug Debug Continue)) (with m (put m.registers PC n)) b
   unfolding committed plan fetched decoded finished raised act noop
   step-noop w n h f r d p =
@@ -136,7 +136,7 @@ module _ (m : Machine) (b : Lent) where
 
   -- so a step that does nothing is ruled out
   pub noop-raises : (w : ℕ) → valid m b.dev ≡ true → flag m.registers 0 ≡ false
-      → readWord m.map b (get m.registers PC) ≡ is (aWord w) → decode w ≡ is Noop → get m.registers PC + 2 ≤ 65535 → length m.registers.value ≡ 8
+      → read_word m.map b (get m.registers PC) ≡ is (a_word w) → decode w ≡ is Noop → get m.registers PC + 2 ≤ 65535 → length m.registers.value ≡ 8
       → get (step m b).machine.registers PC ≡ get m.registers PC + 2
   noop-raises w h f r d p l =
       ap (λ (x : After). get x.machine.registers PC) (step-noop w (get m.registers PC + 2) h f r d (reached-at (get m.registers PC + 2) p))

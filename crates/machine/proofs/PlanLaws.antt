@@ -13,7 +13,7 @@ use Rattle.memory.proofs.Decisions.{Sound, byte-sound, decision-sound}
 use Rattle.machine.specs.Answers.{Reply, Continue, Debug, Stop}
 use Rattle.machine.specs.Registers.{flag}
 use Rattle.machine.specs.Plan.{plans, plan}
-use Rattle.machine.specs.Stores.{Storing, nothing, oneByte, one_word}
+use Rattle.machine.specs.Stores.{Storing, nothing, one_byte, one_word}
 use Rattle.machine.specs.declared.Machine.{Machine}
 use Rattle.machine.proofs.ActCases.{Properties, StoresOf, GoodAs, plan-good, plan-gives}
 use Rattle.machine.proofs.RegisterLaws.{put-length}
@@ -40,7 +40,7 @@ module _ (m : Machine) (b : Lent) where
 
   sound : (x : Storing) → StoresOf m b known x
   sound nothing = tt
-  sound (oneByte a v) = byte-sound m.map b a v
+  sound (one_byte a v) = byte-sound m.map b a v
   sound (one_word a w) = decision-sound m.map b a w
 
   answered-as : (x : Told Reply) → (plan m b).answer ≡ x → GoodAs m b known (plan m b) x

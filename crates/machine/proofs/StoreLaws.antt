@@ -10,7 +10,7 @@ use Rattle.instruction.specs.declared.Register.TheVariants.{PC}
 use Rattle.instruction.specs.declared.Instruction.{Instruction}
 use Rattle.map.specs.declared.Map.{Map}
 use Rattle.memory.specs.Bytes.{Lent}
-use Rattle.memory.specs.Words.{made, aWord, readWord, wordStored, byteStored, byteDecision, wordDecision}
+use Rattle.memory.specs.Words.{made, a_word, read_word, word_stored, byte_stored, byte_decision, word_decision}
 use Rattle.memory.proofs.Decisions.{decision-makes, byte-makes, nothing-made, byte-outcome, word-outcome}
 use Rattle.machine.specs.Answers.{Reply}
 use Rattle.machine.specs.Registers.{get, flag}
@@ -18,28 +18,28 @@ use Rattle.machine.specs.Acts.{ended, storing, word_at, act}
 use Rattle.machine.specs.Plan.{Planned, finished, decoded, fetched, plan}
 use Rattle.machine.specs.Step.{After, committed, step}
 use Rattle.machine.specs.States.{valid}
-use Rattle.machine.specs.Stores.{Storing, nothing, oneByte, one_word, stores, storingOf}
+use Rattle.machine.specs.Stores.{Storing, nothing, one_byte, one_word, stores, storing_of}
 use Rattle.machine.specs.declared.Machine.{Machine}
 use Rattle.machine.specs.declared.Registers.{Registers}
-use Rattle.machine.proofs.ActCases.{changesOf, Properties, GoodAs, act-good, finished-good}
+use Rattle.machine.proofs.ActCases.{changes_of, Properties, GoodAs, act-good, finished-good}
 use Rattle.machine.proofs.Laws.{valid-step}
 
 -- ---- how a store ends is what becomes of memory's own
 
-pub str-ends : (m : Map) (b : Lent) (s : Registers) (r : Register) (a : ℕ) → word_at m b s r true a ≡ ended s (wordDecision m b a (get s r)).changes (wordStored m b a)
+pub str-ends : (m : Map) (b : Lent) (s : Registers) (r : Register) (a : ℕ) → word_at m b s r true a ≡ ended s (word_decision m b a (get s r)).changes (word_stored m b a)
 unfolding word_at storing
-str-ends m b s r a = ap (ended s (wordDecision m b a (get s r)).changes) (word-outcome m b a (get s r))
+str-ends m b s r a = ap (ended s (word_decision m b a (get s r)).changes) (word-outcome m b a (get s r))
 
-pub byte-ends : (m : Map) (b : Lent) (s : Registers) (a v : ℕ) → storing s (byteDecision m b a v) ≡ ended s (byteDecision m b a v).changes (is (byteStored m b a))
+pub byte-ends : (m : Map) (b : Lent) (s : Registers) (a v : ℕ) → storing s (byte_decision m b a v) ≡ ended s (byte_decision m b a v).changes (is (byte_stored m b a))
 unfolding storing
-byte-ends m b s a v = ap (ended s (byteDecision m b a v).changes) (byte-outcome m b a v)
+byte-ends m b s a v = ap (ended s (byte_decision m b a v).changes) (byte-outcome m b a v)
 
 -- ---- what is decided and then made is the store
 
-stores-made : (m : Map) (b : Lent) (x : Storing) → made (changesOf m b x) b ≡ stores m b x
+stores-made : (m : Map) (b : Lent) (x : Storing) → made (changes_of m b x) b ≡ stores m b x
 unfolding stores
 stores-made m b nothing = nothing-made b
-stores-made m b (oneByte a v) = byte-makes m b a v
+stores-made m b (one_byte a v) = byte-makes m b a v
 stores-made m b (one_word a w) = decision-makes m b a w
 
 -- so an accepted plan of an instruction leaves the bytes of its stores
@@ -48,7 +48,7 @@ module _ (m : Machine) (b : Lent) (i : Instruction) where
   leaves = record {
     Answered = λ a. Unit {0};
     Held = λ t. Unit {0};
-    Stores = λ c. made c b ≡ stores m.map b (storingOf m b i);
+    Stores = λ c. made c b ≡ stores m.map b (storing_of m b i);
     continues = tt;
     debugs = tt;
     stops = λ f. tt;
@@ -59,16 +59,16 @@ module _ (m : Machine) (b : Lent) (i : Instruction) where
   abbrev done : Planned
   done = finished m.registers (act m b i)
 
-  done-leaves : (z : Reply) → done.answer ≡ is z → made done.changes b ≡ stores m.map b (storingOf m b i)
+  done-leaves : (z : Reply) → done.answer ≡ is z → made done.changes b ≡ stores m.map b (storing_of m b i)
   done-leaves z e =
-      let good = finished-good m b leaves (act m b i) (act-good m b leaves i (stores-made m.map b (storingOf m b i))) in
+      let good = finished-good m b leaves (act m b i) (act-good m b leaves i (stores-made m.map b (storing_of m b i))) in
       (subst (GoodAs m b leaves done) e good).2
 
 -- ---- and so does an accepted step
 
 pub step-stores : (m : Machine) (b : Lent) (w : ℕ) (i : Instruction) (z : Reply) → valid m b.dev ≡ true → flag m.registers 0 ≡ false
-    → readWord m.map b (get m.registers PC) ≡ is (aWord w) → decode w ≡ is i → (step m b).answer ≡ is z
-    → (step m b).bytes ≡ stores m.map b (storingOf m b i)
+    → read_word m.map b (get m.registers PC) ≡ is (a_word w) → decode w ≡ is i → (step m b).answer ≡ is z
+    → (step m b).bytes ≡ stores m.map b (storing_of m b i)
 unfolding committed plan fetched decoded
 step-stores m b w i z h f r d e =
     let p : plan m b ≡ done m b i = rw (f, r, d) in

@@ -3,7 +3,7 @@ use Rattle.std.specs.Prelude.{ℕ, Bool, true, false}
 use Rattle.base.specs.Choice.{cond}
 use Rattle.base.specs.Told.{Told, is, no, ◌>>=◌}
 use Rattle.base.specs.Words.{low_of}
-use Rattle.base.specs.Addresses.{basePlusShift, raisedPc, addressOr}
+use Rattle.base.specs.Addresses.{base_plus_shift, raised_pc, address_or}
 use Rattle.instruction.specs.declared.Register.{Register}
 use Rattle.instruction.specs.declared.Register.TheVariants.{M, SP, PC, FLAGS}
 use Rattle.instruction.specs.declared.Operand.{Operand}
@@ -14,13 +14,13 @@ use Rattle.instruction.specs.declared.CompareOp.{CompareOp}
 use Rattle.instruction.specs.declared.Instruction.{Instruction}
 use Rattle.instruction.specs.declared.Instruction.TheVariants.{Noop, Mov, MovShift, Arith, ArithRegReg, LdrStr, LdbStb, Cpy, Jmp, CondJmp, Cmp, CallRet}
 use Rattle.arithmetic.specs.Totals.{remainder}
-use Rattle.arithmetic.specs.Operators.{arithResult, arithmeticResult}
+use Rattle.arithmetic.specs.Operators.{arith_result, arithmetic_result}
 use Rattle.arithmetic.specs.Compares.{compare}
 use Rattle.arithmetic.specs.Shifts.{moved}
 use Rattle.arithmetic.specs.Flags.{compared, failed}
 use Rattle.map.specs.declared.Map.{Map}
-use Rattle.memory.specs.Bytes.{Lent, readByte}
-use Rattle.memory.specs.Words.{Reading, aWord, no_word, readWord, Ending, Decided, byteDecision, wordDecision}
+use Rattle.memory.specs.Bytes.{Lent, read_byte}
+use Rattle.memory.specs.Words.{Reading, a_word, no_word, read_word, Ending, Decided, byte_decision, word_decision}
 use Rattle.memory.specs.Words as memory
 use Rattle.memory.specs.declared.Read.{Read}
 use Rattle.memory.specs.declared.Read.TheVariants.{Byte, Unmapped}
@@ -51,8 +51,8 @@ noop mode s = is (next (cond mode.debug Debug Continue) s Nothing)
 unfoldable pub mov : Registers → Register → Operand → Told Act
 mov s d o = onward (put s d (operand s o))
 
-unfoldable pub movShift : Registers → Register → ℕ → Bool → ℕ → Told Act
-movShift s d amount left imm = onward (put s d (moved (get s d) amount left imm))
+unfoldable pub mov_shift : Registers → Register → ℕ → Bool → ℕ → Told Act
+mov_shift s d amount left imm = onward (put s d (moved (get s d) amount left imm))
 
 -- what an operator comes to goes into d, while the bytes of c are stored
 unfoldable pub result : Registers → Register → Changes → Told ℕ → Told Act
@@ -60,22 +60,22 @@ result s d c (is v) = is (next Continue (put s d v) c)
 result s d c (no n) = no n
 
 -- the remainder's low byte at the old SP; a failure is ignored
-unfoldable pub atOldSp : Map → Lent → Registers → Told ℕ → Changes
-atOldSp m b s (is v) = (byteDecision m b (get s SP) (low_of v)).changes
-atOldSp m b s (no n) = Nothing
+unfoldable pub at_old_sp : Map → Lent → Registers → Told ℕ → Changes
+at_old_sp m b s (is v) = (byte_decision m b (get s SP) (low_of v)).changes
+at_old_sp m b s (no n) = Nothing
 
 -- what Arith stores: the remainder, for Div with FLAGS bit 1 set
 unfoldable pub kept : Map → Lent → Registers → ArithOp → ℕ → ℕ → Changes
 kept m b s Add x y = Nothing
 kept m b s Sub x y = Nothing
 kept m b s Mul x y = Nothing
-kept m b s Div x y = cond (flag s 1) (atOldSp m b s (remainder x y)) Nothing
+kept m b s Div x y = cond (flag s 1) (at_old_sp m b s (remainder x y)) Nothing
 
 unfoldable pub arith : Map → Lent → Registers → Register → Operand → ArithOp → Told Act
-arith m b s d o op = result s d (kept m b s op (get s d) (operand s o)) (arithResult op (get s d) (operand s o))
+arith m b s d o op = result s d (kept m b s op (get s d) (operand s o)) (arith_result op (get s d) (operand s o))
 
-unfoldable pub arithRegReg : Registers → Register → Register → Register → ArithmeticOp → Told Act
-arithRegReg s d x y op = result s d Nothing (arithmeticResult op (get s x) (get s y))
+unfoldable pub arith_reg_reg : Registers → Register → Register → Register → ArithmeticOp → Told Act
+arith_reg_reg s d x y op = result s d Nothing (arithmetic_result op (get s x) (get s y))
 
 -- FLAGS bit 3: a true compare sets it, a false one clears it, a taken CondJmp clears it
 unfoldable pub marked : Registers → Bool → Registers
@@ -89,28 +89,28 @@ cmp s r o op = onward (marked s (compare op (get s r) (operand s o)))
 unfoldable pub jmp : Registers → Operand → Told Act
 jmp s o = is (jump (put s PC (operand s o)))
 
-unfoldable pub condJmp : Registers → Operand → Told Act
-condJmp s o = cond (flag s 3) (jmp (marked s false) o) (onward s)
+unfoldable pub cond_jmp : Registers → Operand → Told Act
+cond_jmp s o = cond (flag s 3) (jmp (marked s false) o) (onward s)
 
 -- Call sets M to old PC+2: 9 where there is no such address
 unfoldable pub call : Registers → ℕ → Told Act
-call s address = addressOr 9 (raisedPc (get s PC)) >>= λ n. is (jump (put (put s PC address) M n))
+call s address = address_or 9 (raised_pc (get s PC)) >>= λ n. is (jump (put (put s PC address) M n))
 
-unfoldable pub callRet : Registers → Bool → ℕ → Told Act
-callRet s true address = is (jump (put s PC (get s M)))
-callRet s false address = call s address
+unfoldable pub call_ret : Registers → Bool → ℕ → Told Act
+call_ret s true address = is (jump (put s PC (get s M)))
+call_ret s false address = call s address
 
 -- ---- loads, stores, Cpy
 
 -- a failed load leaves its register
-unfoldable pub wordLoaded : Registers → Register → Told Reading → Told Act
-wordLoaded s r (is (aWord w)) = onward (put s r w)
-wordLoaded s r (is no_word) = onward s
-wordLoaded s r (no n) = no n
+unfoldable pub word_loaded : Registers → Register → Told Reading → Told Act
+word_loaded s r (is (a_word w)) = onward (put s r w)
+word_loaded s r (is no_word) = onward s
+word_loaded s r (no n) = no n
 
-unfoldable pub byteLoaded : Registers → Register → Read → Told Act
-byteLoaded s r (Byte v p) = onward (put s r v)
-byteLoaded s r Unmapped = onward s
+unfoldable pub byte_loaded : Registers → Register → Read → Told Act
+byte_loaded s r (Byte v p) = onward (put s r v)
+byte_loaded s r Unmapped = onward s
 
 -- FLAGS bits 0 and 2
 unfoldable pub fault : Registers → Registers
@@ -128,37 +128,37 @@ storing s d = ended s d.changes d.outcome
 
 -- the word, or the byte, at an address: stored from r, or loaded into it
 unfoldable pub word_at : Map → Lent → Registers → Register → Bool → ℕ → Told Act
-word_at m b s r true a = storing s (wordDecision m b a (get s r))
-word_at m b s r false a = wordLoaded s r (readWord m b a)
+word_at m b s r true a = storing s (word_decision m b a (get s r))
+word_at m b s r false a = word_loaded s r (read_word m b a)
 
 unfoldable pub byte_at : Map → Lent → Registers → Register → Bool → ℕ → Told Act
-byte_at m b s r true a = storing s (byteDecision m b a (low_of (get s r)))
-byte_at m b s r false a = byteLoaded s r (readByte m b a)
+byte_at m b s r true a = storing s (byte_decision m b a (low_of (get s r)))
+byte_at m b s r false a = byte_loaded s r (read_byte m b a)
 
 -- at base plus shift: 3 where there is no such address
 unfoldable pub addressed : Registers → Register → ℕ → (ℕ → Told Act) → Told Act
-addressed s a shift acts = addressOr 3 (basePlusShift (get s a) shift) >>= acts
+addressed s a shift acts = address_or 3 (base_plus_shift (get s a) shift) >>= acts
 
 -- an unmapped source is a failed Cpy too
 unfoldable pub copied : Map → Lent → Registers → ℕ → Read → Told Act
-copied m b s to (Byte v p) = storing s (byteDecision m b to v)
+copied m b s to (Byte v p) = storing s (byte_decision m b to v)
 copied m b s to Unmapped = onward (fault s)
 
 unfoldable pub cpy : Map → Lent → Registers → Register → Register → Told Act
-cpy m b s x y = copied m b s (get s y) (readByte m b (get s x))
+cpy m b s x y = copied m b s (get s y) (read_byte m b (get s x))
 
 -- ---- all twelve
 
 unfoldable pub act : Machine → Lent → Instruction → Told Act
 act m b Noop = noop m.mode m.registers
 act m b (Mov d o) = mov m.registers d o
-act m b (MovShift d amount left imm) = movShift m.registers d amount left imm
+act m b (MovShift d amount left imm) = mov_shift m.registers d amount left imm
 act m b (Arith d o op) = arith m.map b m.registers d o op
-act m b (ArithRegReg d x y op) = arithRegReg m.registers d x y op
+act m b (ArithRegReg d x y op) = arith_reg_reg m.registers d x y op
 act m b (LdrStr r a store shift) = addressed m.registers a shift (word_at m.map b m.registers r store)
 act m b (LdbStb r a store shift) = addressed m.registers a shift (byte_at m.map b m.registers r store)
 act m b (Cpy x y) = cpy m.map b m.registers x y
 act m b (Jmp o) = jmp m.registers o
-act m b (CondJmp o) = condJmp m.registers o
+act m b (CondJmp o) = cond_jmp m.registers o
 act m b (Cmp r o op) = cmp m.registers r o op
-act m b (CallRet ret address) = callRet m.registers ret address
+act m b (CallRet ret address) = call_ret m.registers ret address

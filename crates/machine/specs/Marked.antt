@@ -9,7 +9,7 @@ use Rattle.instruction.specs.declared.Instruction.TheVariants.{Mov, LdrStr, Cond
 use Rattle.instruction.specs.declared.Register.TheVariants.{A, B, C}
 use Rattle.instruction.specs.declared.Operand.TheVariants.{Reg, Imm}
 use Rattle.instruction.specs.declared.ArithmeticOp.TheVariants.{Sqrt}
-use Rattle.arithmetic.specs.Operators.{arithmeticResult}
+use Rattle.arithmetic.specs.Operators.{arithmetic_result}
 
 -- a word, what a word decodes to, or what an operator comes to
 pub data Says : Type 0 where
@@ -37,6 +37,6 @@ marked =
     ∷ row (decodes (decode 0x000C)) (decodes (no 4))
     ∷ row (decodes (decode 0x0307)) (decodes (no 5))
     ∷ row (decodes (decode 0x038A)) (decodes (no 6))
-    ∷ row (comes (arithmeticResult Sqrt 65024 0)) (comes (is 254))
-    ∷ row (comes (arithmeticResult Sqrt 65025 0)) (comes (is 255))
+    ∷ row (comes (arithmetic_result Sqrt 65024 0)) (comes (is 254))
+    ∷ row (comes (arithmetic_result Sqrt 65025 0)) (comes (is 255))
     ∷ []

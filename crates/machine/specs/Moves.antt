@@ -11,9 +11,9 @@ abbrev pub regs : List ℕ → Registers
 regs g = record { value = g }
 
 -- one register gets a value, and then PC its own
-abbrev pub movedBy : Registers → Move → Planned
-movedBy s m = plans (answered m.answer) (put (put s m.register m.value) PC m.pc) m.changes
+abbrev pub moved_by : Registers → Move → Planned
+moved_by s m = plans (answered m.answer) (put (put s m.register m.value) PC m.pc) m.changes
 
 -- so moved, the registers g are as planned of them
 abbrev pub Moves : List ℕ → Move → (Registers → Planned) → Type 0
-Moves g m plan = movedBy (regs g) m ≡ plan (regs g)
+Moves g m plan = moved_by (regs g) m ≡ plan (regs g)

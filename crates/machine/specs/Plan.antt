@@ -2,14 +2,14 @@
 use Rattle.std.specs.Prelude.{ℕ}
 use Rattle.base.specs.Choice.{cond}
 use Rattle.base.specs.Told.{Told, is, no}
-use Rattle.base.specs.Addresses.{raisedPc}
+use Rattle.base.specs.Addresses.{raised_pc}
 use Rattle.base.specs.declared.addresses.Reached.{Reached}
 use Rattle.base.specs.declared.addresses.Reached.TheVariants.{At, Past}
 use Rattle.instruction.specs.Decode.{decode}
 use Rattle.instruction.specs.declared.Instruction.{Instruction}
 use Rattle.instruction.specs.declared.Register.TheVariants.{PC}
 use Rattle.memory.specs.Bytes.{Lent}
-use Rattle.memory.specs.Words.{Reading, aWord, no_word, readWord}
+use Rattle.memory.specs.Words.{Reading, a_word, no_word, read_word}
 use Rattle.memory.specs.declared.Changes.{Changes}
 use Rattle.memory.specs.declared.Changes.TheVariants.{Nothing}
 use Rattle.machine.specs.Answers.{Reply, Continue, Stop, answered}
@@ -44,7 +44,7 @@ raised s a t c Past = refusal s 9
 
 -- taken jumps, call and return skip the addition
 unfoldable pub finished : Registers → Told Act → Planned
-finished s (is (next a t c)) = raised s a t c (raisedPc (get t PC))
+finished s (is (next a t c)) = raised s a t c (raised_pc (get t PC))
 finished s (is (jump t)) = plans (is Continue) t Nothing
 finished s (no n) = refusal s n
 
@@ -57,7 +57,7 @@ decoded m b (no n) = refusal m.registers n
 
 -- 2 or 3
 unfoldable pub fetched : Machine → Lent → Told Reading → Planned
-fetched m b (is (aWord w)) = decoded m b (decode w)
+fetched m b (is (a_word w)) = decoded m b (decode w)
 fetched m b (is no_word) = refusal m.registers 2
 fetched m b (no n) = refusal m.registers n
 
@@ -65,4 +65,4 @@ fetched m b (no n) = refusal m.registers n
 unfoldable pub plan : Machine → Lent → Planned
 plan m b =
     cond (flag m.registers 0) (plans (is Stop) m.registers Nothing)
-    (fetched m b (readWord m.map b (get m.registers PC)))
+    (fetched m b (read_word m.map b (get m.registers PC)))

@@ -29,7 +29,7 @@ pub fn mov(s: &[u16; 8], d: Register, o: Operand) -> Move
 }
 
 pub fn mov_shift(s: &[u16; 8], d: Register, amount: u8, left: bool, imm: u16) -> Move
-    ensures { Moves s.now result (λ g. finished g (act.movShift g d amount left imm)) }
+    ensures { Moves s.now result (λ g. finished g (act.mov_shift g d amount left imm)) }
 {
     let v = arithmetic::moved(get(s, d), amount, left, imm);
     go_on(s, d, v, Changes::Nothing)
@@ -37,7 +37,7 @@ pub fn mov_shift(s: &[u16; 8], d: Register, amount: u8, left: bool, imm: u16) ->
 
 // Where a remainder goes: its low byte at the old SP, if that takes a store.
 fn at_old_sp(m: Map, mem: &[u8], dev: &[u8], s: &[u16; 8], x: Total) -> Changes
-    ensures { result ≡ act.atOldSp m (lent mem.now dev.now) (regs s.now) (total x) }
+    ensures { result ≡ act.at_old_sp m (lent mem.now dev.now) (regs s.now) (total x) }
 {
     match x {
         Total::Is(v) => {
@@ -88,7 +88,7 @@ pub fn arith(
 }
 
 pub fn arith_reg_reg(s: &[u16; 8], d: Register, x: Register, y: Register, op: ArithmeticOp) -> Move
-    ensures { Moves s.now result (λ g. finished g (act.arithRegReg g d x y op)) }
+    ensures { Moves s.now result (λ g. finished g (act.arith_reg_reg g d x y op)) }
 {
     let v = arithmetic::arithmetic(op, get(s, x), get(s, y));
     settle(s, d, v, Changes::Nothing)

@@ -20,7 +20,7 @@ pub fn jmp(s: &[u16; 8], o: Operand) -> Move
 
 // The flag that it looks at is cleared before its operand is read.
 pub fn cond_jmp(s: &[u16; 8], o: Operand) -> Move
-    ensures { Moves s.now result (λ g. finished g (act.condJmp g o)) }
+    ensures { Moves s.now result (λ g. finished g (act.cond_jmp g o)) }
 {
     if flag(s, 3) {
         let v = mark(s, false);
@@ -41,7 +41,7 @@ fn call(s: &[u16; 8], address: u16) -> Move
 }
 
 pub fn call_ret(s: &[u16; 8], ret: bool, address: u16) -> Move
-    ensures { Moves s.now result (λ g. finished g (act.callRet g ret address)) }
+    ensures { Moves s.now result (λ g. finished g (act.call_ret g ret address)) }
 {
     if ret {
         let v = get(s, Register::M);

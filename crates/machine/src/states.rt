@@ -1,7 +1,7 @@
 // A machine's state: whether it is valid, a new one, and setting a register.
 ghost use Rattle.std.specs.Prelude.{◌≡◌};
-ghost use Rattle.base.specs.Numbers.{answerNumber};
-ghost use Rattle.machine.specs.States.{valid, with, fresh, setNumber, setMachine};
+ghost use Rattle.base.specs.Numbers.{answer_number};
+ghost use Rattle.machine.specs.States.{valid, with, fresh, set_number, set_machine};
 
 use crate::{Changed, Machine, Mode, Registers};
 use base::{Answer, Refusal};
@@ -39,8 +39,8 @@ pub fn new(debug: bool) -> Machine
 
 // Sets a register by its number: 1, then 18 for a number over 7.
 pub fn set_register(m: Machine, dev: &[u8], number: usize, value: u16) -> Changed
-    ensures answer_value { answerNumber result.answer ≡ setNumber m dev.now number }
-    ensures machine_value { result.machine ≡ setMachine m dev.now number value }
+    ensures answer_value { answer_number result.answer ≡ set_number m dev.now number }
+    ensures machine_value { result.machine ≡ set_machine m dev.now number value }
 {
     if !valid(m, dev) {
         return Changed {

@@ -1,7 +1,7 @@
 // Loads, stores and Cpy: what goes between registers and memory. Memory is read here, and nothing is stored yet.
 ghost use Rattle.std.specs.Prelude.{◌≡◌};
 ghost use Rattle.memory.specs.Bytes.{lent};
-ghost use Rattle.memory.specs.Words.{toldWord, decided};
+ghost use Rattle.memory.specs.Words.{told_word, decided};
 ghost use Rattle.machine.specs.Acts as act;
 ghost use Rattle.machine.specs.Moves.{Moves};
 ghost use Rattle.machine.specs.Plan.{finished};
@@ -16,7 +16,7 @@ use memory::{Changes, Decision, Read, Stored, WordRead};
 
 // A word that was read goes into r; where there was none, r stays.
 fn load_word(s: &[u16; 8], r: Register, x: WordRead) -> Move
-    ensures { Moves s.now result (λ g. finished g (act.wordLoaded g r (toldWord x))) }
+    ensures { Moves s.now result (λ g. finished g (act.word_loaded g r (told_word x))) }
 {
     match x {
         WordRead::Word(w) => go_on(s, r, w, Changes::Nothing),
@@ -26,7 +26,7 @@ fn load_word(s: &[u16; 8], r: Register, x: WordRead) -> Move
 }
 
 fn load_byte(s: &[u16; 8], r: Register, x: Read) -> Move
-    ensures { Moves s.now result (λ g. finished g (act.byteLoaded g r x)) }
+    ensures { Moves s.now result (λ g. finished g (act.byte_loaded g r x)) }
 {
     match x {
         Read::Byte(v, _) => go_on(s, r, v as u16, Changes::Nothing),

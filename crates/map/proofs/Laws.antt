@@ -9,11 +9,11 @@ use lib.ListN.{length, get_or, take}
 use borrow.Author.Tests.{leb-true, ltb-true, le-leb, lt-ltb, le-ltb, lt-leb, not-true}
 use Rattle.base.specs.Choice.{cond}
 use Rattle.map.specs.Tables.{any, sound}
-use Rattle.map.specs.Regions.{regionsOverlap, regionInRange, regionIsSet, usedRegions, spareRegions, protected}
-use Rattle.map.specs.Devices.{devicesOverlap, deviceInRange, deviceIsSet, usedDevices, spareDevices, covered, total}
-use Rattle.map.specs.Places.{addressable, mapped, succeeds, inLinear, placeFrom, place, guard, target, somewhere, linearByte, linearWord}
-use Rattle.map.specs.Valid.{validRegions, validDevices, valid}
-use Rattle.map.specs.Entries.{device, emptyMap, protectOrder, regionNumber}
+use Rattle.map.specs.Regions.{regions_overlap, region_in_range, region_is_set, used_regions, spare_regions, protected}
+use Rattle.map.specs.Devices.{devices_overlap, device_in_range, device_is_set, used_devices, spare_devices, covered, total}
+use Rattle.map.specs.Places.{addressable, mapped, succeeds, in_linear, place_from, place, guard, target, somewhere, linear_byte, linear_word}
+use Rattle.map.specs.Valid.{valid_regions, valid_devices, valid}
+use Rattle.map.specs.Entries.{device, empty_map, protect_order, region_number}
 use Rattle.map.specs.declared.Region.{Region}
 use Rattle.map.specs.declared.Map.{Map}
 use Rattle.map.specs.declared.Place.{Place}
@@ -37,22 +37,22 @@ unfolding somewhere
 nowhere-not = refl
 
 -- a linear byte is below the memory's length, and is found there
-module _ (m : Map) (mem a : ℕ) (e : linearByte m mem a ≡ true) where
+module _ (m : Map) (mem a : ℕ) (e : linear_byte m mem a ≡ true) where
   linear-byte-below : a < addressable mem
-  unfolding linearByte
+  unfolding linear_byte
   linear-byte-below = ltb-true a (addressable mem) (and_left (ltb a (addressable mem)) (not (covered m a)) e)
 
   linear-byte-place : (dev : ℕ) → place m mem dev a ≡ Linear a
-  unfolding linearByte place inLinear
+  unfolding linear_byte place in_linear
   linear-byte-place dev =
       let f = not-true (covered m a) (and_right (ltb a (addressable mem)) (not (covered m a)) e) in
-      from-uncovered mem dev (usedDevices m) 0 0 a f ∙ rw (lt-ltb a (addressable mem) linear-byte-below)
+      from-uncovered mem dev (used_devices m) 0 0 a f ∙ rw (lt-ltb a (addressable mem) linear-byte-below)
 
 module _ (m : Map) (mem dev : ℕ) where
   -- a place is within the bytes that are lent
   pub place-within : (a : ℕ) → Within (place m mem dev a) mem dev
   unfolding place
-  place-within a = from-within mem dev (usedDevices m) 0 0 a
+  place-within a = from-within mem dev (used_devices m) 0 0 a
 
   -- and so is where a store goes
   pub target-within : (a : ℕ) → Within (target m mem dev a) mem dev
@@ -68,31 +68,31 @@ module _ (m : Map) (mem dev : ℕ) where
   -- two addresses with one byte are one address
   pub place-one : (a b : ℕ) → SameByte (place m mem dev a) (place m mem dev b) → a ≡ b
   unfolding place
-  place-one a b = go (placeFrom (usedDevices m) 0 0 mem dev a) (placeFrom (usedDevices m) 0 0 mem dev b) refl refl
+  place-one a b = go (place_from (used_devices m) 0 0 mem dev a) (place_from (used_devices m) 0 0 mem dev b) refl refl
     where
-      go : (p q : Place) → placeFrom (usedDevices m) 0 0 mem dev a ≡ p → placeFrom (usedDevices m) 0 0 mem dev b ≡ q → SameByte p q → a ≡ b
-      go (Linear i) (Linear j) e f h = from-linear mem dev (usedDevices m) 0 0 a i e ∙ h ∙ sym (from-linear mem dev (usedDevices m) 0 0 b j f)
+      go : (p q : Place) → place_from (used_devices m) 0 0 mem dev a ≡ p → place_from (used_devices m) 0 0 mem dev b ≡ q → SameByte p q → a ≡ b
+      go (Linear i) (Linear j) e f h = from-linear mem dev (used_devices m) 0 0 a i e ∙ h ∙ sym (from-linear mem dev (used_devices m) 0 0 b j f)
       go (Linear i) (Bank n o j) e f h = absurd h
       go (Linear i) Nowhere e f h = absurd h
       go (Bank n o i) (Linear j) e f h = absurd h
-      go (Bank n o i) (Bank k q j) e f h = from_one mem dev (usedDevices m) 0 0 a b n o k q j (e ∙ ap (Bank n o) h) f
+      go (Bank n o i) (Bank k q j) e f h = from_one mem dev (used_devices m) 0 0 a b n o k q j (e ∙ ap (Bank n o) h) f
       go (Bank n o i) Nowhere e f h = absurd h
       go Nowhere q e f h = absurd h
 
   -- a device's bytes are the next of the device buffer: its byte at an offset is past all bytes of the devices before it
-  pub place-index : (a k q i : ℕ) → place m mem dev a ≡ Bank k q i → i ≡ total (take k (usedDevices m)) + q
+  pub place-index : (a k q i : ℕ) → place m mem dev a ≡ Bank k q i → i ≡ total (take k (used_devices m)) + q
   unfolding place
   place-index a k q i e =
-      let f = from-index mem dev (usedDevices m) 0 0 a k q i e in
+      let f = from-index mem dev (used_devices m) 0 0 a k q i e in
       let z : k - 0 ≡ k = omega arith in
-      let g : i ≡ 0 + total (take k (usedDevices m)) + q = rw z at f.1 in
+      let g : i ≡ 0 + total (take k (used_devices m)) + q = rw z at f.1 in
       omega arith
 
   -- and the offset is that from the start of the device with that number
-  pub place-offset : (a k q i : ℕ) → place m mem dev a ≡ Bank k q i → q + (get_or (usedDevices m) k (device 0 0)).start ≡ a
+  pub place-offset : (a k q i : ℕ) → place m mem dev a ≡ Bank k q i → q + (get_or (used_devices m) k (device 0 0)).start ≡ a
   unfolding place
   place-offset a k q i e =
-      let f = from-index mem dev (usedDevices m) 0 0 a k q i e in
+      let f = from-index mem dev (used_devices m) 0 0 a k q i e in
       let z : k - 0 ≡ k = omega arith in
       rw z at f.2
 
@@ -108,21 +108,21 @@ module _ (m : Map) (mem dev : ℕ) where
       go t Nowhere e = refl
 
 -- a word of two linear bytes: both have an address, are below the memory's length, and are found there
-module _ (m : Map) (mem a : ℕ) (e : linearWord m mem a ≡ true) where
+module _ (m : Map) (mem a : ℕ) (e : linear_word m mem a ≡ true) where
   linear-far : a + 1 < addressable mem
-  unfolding linearWord
-  linear-far = linear-byte-below m mem (a + 1) (and_right (linearByte m mem a) (linearByte m mem (a + 1)) e)
+  unfolding linear_word
+  linear-far = linear-byte-below m mem (a + 1) (and_right (linear_byte m mem a) (linear_byte m mem (a + 1)) e)
 
   pub linear-second : a + 1 ≤ 65535
   linear-second = omega (arith, linear-far)
 
   pub linear-low : (dev : ℕ) → place m mem dev a ≡ Linear a
-  unfolding linearWord
-  linear-low dev = linear-byte-place m mem a (and_left (linearByte m mem a) (linearByte m mem (a + 1)) e) dev
+  unfolding linear_word
+  linear-low dev = linear-byte-place m mem a (and_left (linear_byte m mem a) (linear_byte m mem (a + 1)) e) dev
 
   pub linear-high : (dev : ℕ) → place m mem dev (a + 1) ≡ Linear (a + 1)
-  unfolding linearWord
-  linear-high dev = linear-byte-place m mem (a + 1) (and_right (linearByte m mem a) (linearByte m mem (a + 1)) e) dev
+  unfolding linear_word
+  linear-high dev = linear-byte-place m mem (a + 1) (and_right (linear_byte m mem a) (linear_byte m mem (a + 1)) e) dev
 
   pub linear-below : a + 1 < mem
   linear-below = omega (arith, linear-far)
@@ -131,47 +131,47 @@ module _ (m : Map) (mem a : ℕ) (e : linearWord m mem a ≡ true) where
 
 module _ (m : Map) (dev : List ℕ) (v : valid m dev ≡ true) where
   -- its parts
-  pub valid-regions : validRegions m ≡ true
+  pub valid-regions : valid_regions m ≡ true
   unfolding valid
-  valid-regions = first (validRegions m) (validDevices m) (leb (total (usedDevices m)) (length dev)) v
+  valid-regions = first (valid_regions m) (valid_devices m) (leb (total (used_devices m)) (length dev)) v
 
-  pub valid-devices : validDevices m ≡ true
+  pub valid-devices : valid_devices m ≡ true
   unfolding valid
-  valid-devices = second (validRegions m) (validDevices m) (leb (total (usedDevices m)) (length dev)) v
+  valid-devices = second (valid_regions m) (valid_devices m) (leb (total (used_devices m)) (length dev)) v
 
-  pub valid-room : total (usedDevices m) ≤ length dev
+  pub valid-room : total (used_devices m) ≤ length dev
   unfolding valid
-  valid-room = leb-true (total (usedDevices m)) (length dev) (third (validRegions m) (validDevices m) (leb (total (usedDevices m)) (length dev)) v)
+  valid-room = leb-true (total (used_devices m)) (length dev) (third (valid_regions m) (valid_devices m) (leb (total (used_devices m)) (length dev)) v)
 
   -- at most eight entries of each table are in use
   pub few-regions : m.regions ≤ 8
-  unfolding validRegions
+  unfolding valid_regions
   few-regions =
-      let spare = not (any regionIsSet (spareRegions m)) in
-      leb-true m.regions 8 (first (leb m.regions 8) spare (sound regionInRange regionsOverlap (usedRegions m)) valid-regions)
+      let spare = not (any region_is_set (spare_regions m)) in
+      leb-true m.regions 8 (first (leb m.regions 8) spare (sound region_in_range regions_overlap (used_regions m)) valid-regions)
 
   pub few-devices : m.devices ≤ 8
-  unfolding validDevices
+  unfolding valid_devices
   few-devices =
-      let spare = not (any deviceIsSet (spareDevices m)) in
-      leb-true m.devices 8 (first (leb m.devices 8) spare (sound deviceInRange devicesOverlap (usedDevices m)) valid-devices)
+      let spare = not (any device_is_set (spare_devices m)) in
+      leb-true m.devices 8 (first (leb m.devices 8) spare (sound device_in_range devices_overlap (used_devices m)) valid-devices)
 
   -- an address has its byte somewhere exactly if it is mapped
   pub mapped-rule : (mem a : ℕ) → somewhere (place m mem (length dev) a) ≡ mapped m mem a
-  unfolding mapped place somewhere inLinear
+  unfolding mapped place somewhere in_linear
   mapped-rule mem a = go (covered m a) refl
     where
       linear : (t : Bool) → somewhere (cond t (Linear a) Nowhere) ≡ t
       linear true = refl
       linear false = refl
 
-      go : (t : Bool) → covered m a ≡ t → somewhere (placeFrom (usedDevices m) 0 0 mem (length dev) a) ≡ (t || ltb a (addressable mem))
-      go true e = let f = from-covered mem (length dev) (usedDevices m) 0 0 a (omega (arith, valid-room)) e in rw f.3
-      go false e = rw (from-uncovered mem (length dev) (usedDevices m) 0 0 a e) (linear (ltb a (addressable mem)))
+      go : (t : Bool) → covered m a ≡ t → somewhere (place_from (used_devices m) 0 0 mem (length dev) a) ≡ (t || ltb a (addressable mem))
+      go true e = let f = from-covered mem (length dev) (used_devices m) 0 0 a (omega (arith, valid-room)) e in rw f.3
+      go false e = rw (from-uncovered mem (length dev) (used_devices m) 0 0 a e) (linear (ltb a (addressable mem)))
 
   -- a store has a place to go to exactly if it succeeds
   pub takes-rule : (mem a : ℕ) → somewhere (target m mem (length dev) a) ≡ succeeds m mem a
-  unfolding succeeds mapped target place guard somewhere inLinear
+  unfolding succeeds mapped target place guard somewhere in_linear
   takes-rule mem a = go (covered m a) refl
     where
       linear : (t u : Bool) → somewhere (guard u (cond t (Linear a) Nowhere)) ≡ (t && not u)
@@ -180,9 +180,9 @@ module _ (m : Map) (dev : List ℕ) (v : valid m dev ≡ true) where
       linear false true = refl
       linear false false = refl
 
-      go : (t : Bool) → covered m a ≡ t → somewhere (guard (protected m a) (placeFrom (usedDevices m) 0 0 mem (length dev) a)) ≡ (t || ((t || ltb a (addressable mem)) && not (protected m a)))
-      go true e = let f = from-covered mem (length dev) (usedDevices m) 0 0 a (omega (arith, valid-room)) e in rw f.3
-      go false e = rw (from-uncovered mem (length dev) (usedDevices m) 0 0 a e) (linear (ltb a (addressable mem)) (protected m a))
+      go : (t : Bool) → covered m a ≡ t → somewhere (guard (protected m a) (place_from (used_devices m) 0 0 mem (length dev) a)) ≡ (t || ((t || ltb a (addressable mem)) && not (protected m a)))
+      go true e = let f = from-covered mem (length dev) (used_devices m) 0 0 a (omega (arith, valid-room)) e in rw f.3
+      go false e = rw (from-uncovered mem (length dev) (used_devices m) 0 0 a e) (linear (ltb a (addressable mem)) (protected m a))
 
 -- of the device buffer only its length matters
 pub valid-length : (m : Map) (dev dev₁ : List ℕ) → length dev ≡ length dev₁ → valid m dev ≡ valid m dev₁
@@ -190,11 +190,11 @@ unfolding valid
 valid-length m dev dev₁ e = rw e
 
 -- no region and no device is valid over any buffer
-pub empty-valid : (dev : List ℕ) → valid emptyMap dev ≡ true
-unfolding valid validRegions validDevices usedRegions spareRegions usedDevices spareDevices total any sound regionIsSet deviceIsSet
+pub empty-valid : (dev : List ℕ) → valid empty_map dev ≡ true
+unfolding valid valid_regions valid_devices used_regions spare_regions used_devices spare_devices total any sound region_is_set device_is_set
 empty-valid dev = le-leb 0 (length dev) (omega arith)
 
 -- ---- adding a region that ends in range to a table with room: only 13 is left
-pub region-last : (m : Map) (r : Region) → r.start + r.len ≤ 65535 → m.regions < 8 → regionNumber m r ≡ cond (any (regionsOverlap r) (usedRegions m)) 13 0
-unfolding regionNumber protectOrder
+pub region-last : (m : Map) (r : Region) → r.start + r.len ≤ 65535 → m.regions < 8 → region_number m r ≡ cond (any (regions_overlap r) (used_regions m)) 13 0
+unfolding region_number protect_order
 region-last m r h f = rw (le-ltb (65535) (r.start + r.len) h, lt-leb 8 m.regions f)

@@ -1,13 +1,13 @@
 // The device table.
 ghost use Rattle.std.specs.Prelude.{◌≡◌, drop, ◌+◌, ◌≤◌};
 ghost use Rattle.map.specs.Tables.{any, sound};
-ghost use Rattle.map.specs.Devices.{deviceCovers, coversEither, deviceSize, devicesOverlap, deviceInRange, deviceIsSet, usedDevices, spareDevices, total};
+ghost use Rattle.map.specs.Devices.{device_covers, covers_either, device_size, devices_overlap, device_in_range, device_is_set, used_devices, spare_devices, total};
 
 use crate::regions::used;
 use crate::{Device, Map};
 
 pub fn device_covers(d: Device, a: u16) -> bool
-    ensures { result ≡ deviceCovers a d }
+    ensures { result ≡ device_covers a d }
 {
     if d.start <= a { a < d.end } else { false }
 }
@@ -15,7 +15,7 @@ pub fn device_covers(d: Device, a: u16) -> bool
 // Whether a device covers an address or the next one. One that starts at its end, or past it, covers none.
 pub fn covers_either(d: Device, a: u16, b: u16) -> bool
     requires { b ≡ a + 1 }
-    ensures { result ≡ coversEither a b d }
+    ensures { result ≡ covers_either a b d }
 {
     if b < d.start {
         return false;
@@ -28,7 +28,7 @@ pub fn covers_either(d: Device, a: u16, b: u16) -> bool
 
 // How many bytes of the device buffer a device has: none where it starts past its end.
 pub fn device_size(d: Device) -> usize
-    ensures value { result ≡ deviceSize d }
+    ensures value { result ≡ device_size d }
     ensures upper_bound { result ≤ 65535 }
 {
     if d.start <= d.end {
@@ -39,7 +39,7 @@ pub fn device_size(d: Device) -> usize
 }
 
 pub fn devices_overlap(e: Device, d: Device) -> bool
-    ensures { result ≡ devicesOverlap e d }
+    ensures { result ≡ devices_overlap e d }
 {
     if e.start <= d.end {
         d.start <= e.end
@@ -50,7 +50,7 @@ pub fn devices_overlap(e: Device, d: Device) -> bool
 
 // Whether a device in use, from entry `from` on, overlaps e.
 pub fn device_meets(m: Map, from: usize, e: Device) -> bool
-    ensures { result ≡ any (devicesOverlap e) (drop from (usedDevices m)) }
+    ensures { result ≡ any (devices_overlap e) (drop from (used_devices m)) }
 {
     let n = used(m.devices);
     let mut i: usize = from;
@@ -65,13 +65,13 @@ pub fn device_meets(m: Map, from: usize, e: Device) -> bool
 
 // Its end is in range by its width, so it is left to test that it does not start past it.
 fn device_in_range(d: Device) -> bool
-    ensures { result ≡ deviceInRange d }
+    ensures { result ≡ device_in_range d }
 {
     d.start <= d.end
 }
 
 fn device_is_set(d: Device) -> bool
-    ensures { result ≡ deviceIsSet d }
+    ensures { result ≡ device_is_set d }
 {
     if d.start != 0 {
         return true;
@@ -81,7 +81,7 @@ fn device_is_set(d: Device) -> bool
 
 // Whether an entry not in use holds anything but zeros.
 pub fn spare_device_set(m: Map) -> bool
-    ensures { result ≡ any deviceIsSet (spareDevices m) }
+    ensures { result ≡ any device_is_set (spare_devices m) }
 {
     let mut i: usize = used(m.devices);
     while i < 8 {
@@ -95,7 +95,7 @@ pub fn spare_device_set(m: Map) -> bool
 
 // Whether each device in use is in range and overlaps none after it.
 pub fn devices_sound(m: Map) -> bool
-    ensures { result ≡ sound deviceInRange devicesOverlap (usedDevices m) }
+    ensures { result ≡ sound device_in_range devices_overlap (used_devices m) }
 {
     let n = used(m.devices);
     let mut i: usize = 0;
@@ -114,7 +114,7 @@ pub fn devices_sound(m: Map) -> bool
 
 // How many bytes of the device buffer the devices in use have together.
 pub fn device_bytes(m: Map) -> usize
-    ensures value { result ≡ total (usedDevices m) }
+    ensures value { result ≡ total (used_devices m) }
     ensures upper_bound { result ≤ 524280 }
 {
     let n = used(m.devices);

@@ -1,8 +1,8 @@
 // Where the byte of an address is, and whether it takes a store.
 ghost use Rattle.std.specs.Prelude.{◌≡◌, ◌+◌, ◌≤◌};
 ghost use Rattle.map.specs.Tables.{any};
-ghost use Rattle.map.specs.Devices.{coversEither, usedDevices};
-ghost use Rattle.map.specs.Places.{place, inBank, inLinear, target, somewhere, linearWord};
+ghost use Rattle.map.specs.Devices.{covers_either, used_devices};
+ghost use Rattle.map.specs.Places.{place, in_bank, in_linear, target, somewhere, linear_word};
 
 use crate::devices::{covers_either, device_covers, device_size};
 use crate::regions::{is_protected, used};
@@ -29,7 +29,7 @@ pub fn place_of(m: Map, mem: usize, dev: usize, a: u16) -> Place
 // A device's byte, where the device buffer is long enough to have it.
 fn in_bank(number: usize, offset: u16, base: usize, dev: usize) -> Place
     requires { base ≤ 524280 }
-    ensures { result ≡ inBank number offset base dev }
+    ensures { result ≡ in_bank number offset base dev }
 {
     let index = base + offset as usize;
     if index < dev {
@@ -43,7 +43,7 @@ fn in_bank(number: usize, offset: u16, base: usize, dev: usize) -> Place
 }
 
 fn in_linear(mem: usize, a: u16) -> Place
-    ensures { result ≡ inLinear mem a }
+    ensures { result ≡ in_linear mem a }
 {
     let i = a as usize;
     if i < mem {
@@ -94,7 +94,7 @@ pub fn is_somewhere(p: Place) -> bool
 // Whether a device in use covers an address or the next one.
 fn device_within(m: Map, a: u16, b: u16) -> bool
     requires { b ≡ a + 1 }
-    ensures { result ≡ any (coversEither a b) (usedDevices m) }
+    ensures { result ≡ any (covers_either a b) (used_devices m) }
 {
     let n = used(m.devices);
     let mut i: usize = 0;
@@ -109,7 +109,7 @@ fn device_within(m: Map, a: u16, b: u16) -> bool
 
 // Whether both bytes of the word at a are linear: they are there, and no device covers one of them.
 pub fn is_linear_word(m: Map, mem: usize, a: u16) -> bool
-    ensures { result ≡ linearWord m mem a }
+    ensures { result ≡ linear_word m mem a }
 {
     if a == 65535 {
         return false;

@@ -1,7 +1,7 @@
 // The table of protected regions.
 ghost use Rattle.std.specs.Prelude.{◌≡◌, drop, min};
 ghost use Rattle.map.specs.Tables.{any, sound};
-ghost use Rattle.map.specs.Regions.{regionCovers, regionsOverlap, regionInRange, regionIsSet, usedRegions, spareRegions, protected};
+ghost use Rattle.map.specs.Regions.{region_covers, regions_overlap, region_in_range, region_is_set, used_regions, spare_regions, protected};
 
 use crate::{Map, Region};
 
@@ -13,7 +13,7 @@ pub fn used(count: u16) -> usize
 }
 
 pub fn region_covers(r: Region, a: u16) -> bool
-    ensures { result ≡ regionCovers a r }
+    ensures { result ≡ region_covers a r }
 {
     if r.start <= a {
         a - r.start < r.len
@@ -37,7 +37,7 @@ pub fn is_protected(m: Map, a: u16) -> bool
 }
 
 pub fn regions_overlap(t: Region, r: Region) -> bool
-    ensures { result ≡ regionsOverlap t r }
+    ensures { result ≡ regions_overlap t r }
 {
     if region_covers(r, t.start) {
         return true;
@@ -47,7 +47,7 @@ pub fn regions_overlap(t: Region, r: Region) -> bool
 
 // Whether a region in use, from entry `from` on, overlaps t.
 pub fn region_meets(m: Map, from: usize, t: Region) -> bool
-    ensures { result ≡ any (regionsOverlap t) (drop from (usedRegions m)) }
+    ensures { result ≡ any (regions_overlap t) (drop from (used_regions m)) }
 {
     let n = used(m.regions);
     let mut i: usize = from;
@@ -61,13 +61,13 @@ pub fn region_meets(m: Map, from: usize, t: Region) -> bool
 }
 
 fn region_in_range(r: Region) -> bool
-    ensures { result ≡ regionInRange r }
+    ensures { result ≡ region_in_range r }
 {
     r.len <= 65535 - r.start
 }
 
 fn region_is_set(r: Region) -> bool
-    ensures { result ≡ regionIsSet r }
+    ensures { result ≡ region_is_set r }
 {
     if r.start != 0 {
         return true;
@@ -77,7 +77,7 @@ fn region_is_set(r: Region) -> bool
 
 // Whether an entry not in use holds anything but zeros.
 pub fn spare_region_set(m: Map) -> bool
-    ensures { result ≡ any regionIsSet (spareRegions m) }
+    ensures { result ≡ any region_is_set (spare_regions m) }
 {
     let mut i: usize = used(m.regions);
     while i < 8 {
@@ -91,7 +91,7 @@ pub fn spare_region_set(m: Map) -> bool
 
 // Whether each region in use ends in range and overlaps none after it.
 pub fn regions_sound(m: Map) -> bool
-    ensures { result ≡ sound regionInRange regionsOverlap (usedRegions m) }
+    ensures { result ≡ sound region_in_range regions_overlap (used_regions m) }
 {
     let n = used(m.regions);
     let mut i: usize = 0;

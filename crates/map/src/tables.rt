@@ -1,8 +1,8 @@
 // Both tables: when they are valid, and how an entry is added.
 ghost use Rattle.std.specs.Prelude.{◌≡◌};
-ghost use Rattle.base.specs.Numbers.{answerNumber, number_of};
-ghost use Rattle.map.specs.Valid.{validRegions, validDevices, valid};
-ghost use Rattle.map.specs.Entries.{emptyMap, withRegion, regionNumber, regionMap, protectNumber, protectMap, withDevice, deviceNumber, deviceMap, registerNumber, registerMap};
+ghost use Rattle.base.specs.Numbers.{answer_number, number_of};
+ghost use Rattle.map.specs.Valid.{valid_regions, valid_devices, valid};
+ghost use Rattle.map.specs.Entries.{empty_map, with_region, region_number, region_map, protect_number, protect_map, with_device, device_number, device_map, register_number, register_map};
 
 use crate::devices::{device_bytes, device_meets, device_size, devices_sound, spare_device_set};
 use crate::regions::{region_meets, regions_sound, spare_region_set};
@@ -11,7 +11,7 @@ use base::{Answer, Refusal};
 
 // No region and no device.
 pub fn empty() -> Map
-    ensures { result ≡ emptyMap }
+    ensures { result ≡ empty_map }
 {
     let r = Region { start: 0, len: 0 };
     let d = Device { start: 0, end: 0 };
@@ -24,7 +24,7 @@ pub fn empty() -> Map
 }
 
 fn valid_regions(m: Map) -> bool
-    ensures { result ≡ validRegions m }
+    ensures { result ≡ valid_regions m }
 {
     if 8 < m.regions {
         return false;
@@ -36,7 +36,7 @@ fn valid_regions(m: Map) -> bool
 }
 
 fn valid_devices(m: Map) -> bool
-    ensures { result ≡ validDevices m }
+    ensures { result ≡ valid_devices m }
 {
     if 8 < m.devices {
         return false;
@@ -62,7 +62,7 @@ pub fn valid(m: Map, dev: &[u8]) -> bool
 
 // A refusal, which leaves the map as it was.
 pub fn refused(r: Refusal, m: Map) -> Mapped
-    ensures answer_value { answerNumber result.answer ≡ number_of r }
+    ensures answer_value { answer_number result.answer ≡ number_of r }
     ensures map_value { result.map ≡ m }
 {
     Mapped {
@@ -73,8 +73,8 @@ pub fn refused(r: Refusal, m: Map) -> Mapped
 
 // The region in the next entry, where it fits: 12, 13, 14. The tables are taken as they are.
 pub fn add_region(m: Map, r: Region) -> Mapped
-    ensures answer_value { answerNumber result.answer ≡ regionNumber m r }
-    ensures map_value { result.map ≡ regionMap m r }
+    ensures answer_value { answer_number result.answer ≡ region_number m r }
+    ensures map_value { result.map ≡ region_map m r }
 {
     if 65535 - r.start < r.len {
         return refused(Refusal::RangeOverflow, m);
@@ -97,8 +97,8 @@ pub fn add_region(m: Map, r: Region) -> Mapped
 
 // Protects the addresses from start on, len of them.
 pub fn protect(m: Map, dev: &[u8], start: u16, len: u16) -> Mapped
-    ensures answer_value { answerNumber result.answer ≡ protectNumber m dev.now start len }
-    ensures map_value { result.map ≡ protectMap m dev.now start len }
+    ensures answer_value { answer_number result.answer ≡ protect_number m dev.now start len }
+    ensures map_value { result.map ≡ protect_map m dev.now start len }
 {
     if !valid(m, dev) {
         return refused(Refusal::BadState, m);
@@ -108,8 +108,8 @@ pub fn protect(m: Map, dev: &[u8], start: u16, len: u16) -> Mapped
 
 // The device in the next entry, where it fits: 13, 14, 17. The tables are taken as they are.
 fn add_device(m: Map, room: usize, d: Device) -> Mapped
-    ensures answer_value { answerNumber result.answer ≡ deviceNumber m room d }
-    ensures map_value { result.map ≡ deviceMap m room d }
+    ensures answer_value { answer_number result.answer ≡ device_number m room d }
+    ensures map_value { result.map ≡ device_map m room d }
 {
     if device_meets(m, 0, d) {
         return refused(Refusal::Overlap, m);
@@ -133,8 +133,8 @@ fn add_device(m: Map, room: usize, d: Device) -> Mapped
 
 // A new device over the addresses from start on, size of them, with the next size bytes of the device buffer.
 pub fn register_device(m: Map, dev: &[u8], start: u16, size: u16) -> Mapped
-    ensures answer_value { answerNumber result.answer ≡ registerNumber m dev.now start size }
-    ensures map_value { result.map ≡ registerMap m dev.now start size }
+    ensures answer_value { answer_number result.answer ≡ register_number m dev.now start size }
+    ensures map_value { result.map ≡ register_map m dev.now start size }
 {
     if !valid(m, dev) {
         return refused(Refusal::BadState, m);

@@ -8,7 +8,7 @@ use Rattle.base.specs.declared.refusals.Answer.TheVariants.{Accepted, Refused}
 use Rattle.base.proofs.Laws.{answer-one, number-one}
 use Rattle.base.proofs.ToldLaws.{is-not-no, is_one, no_one}
 use Rattle.memory.specs.Blocks.{Counted, counted}
-use Rattle.memory.specs.Words.{Reading, aWord, no_word, toldWord, Ending, done, failed, toldStore, Decided, decided}
+use Rattle.memory.specs.Words.{Reading, a_word, no_word, told_word, Ending, done, failed, told_store, Decided, decided}
 use Rattle.memory.specs.declared.WordRead.{WordRead}
 use Rattle.memory.specs.declared.WordRead.TheVariants as word
 use Rattle.memory.specs.declared.Stored.{Stored}
@@ -33,34 +33,34 @@ counted-one (out.Refused r) (out.Refused q) e = ap out.Refused (number-one r q (
 -- ---- a word that was read
 
 -- the answer of a reading that is no refusal
-wordOf : Reading → WordRead
-wordOf (aWord w) = word.Word w
-wordOf no_word = word.NoWord
+word_of : Reading → WordRead
+word_of (a_word w) = word.Word w
+word_of no_word = word.NoWord
 
-pub word-one : (a b : WordRead) → toldWord a ≡ toldWord b → a ≡ b
-unfolding wordOf
-word-one (word.Word w) (word.Word v) e = ap wordOf (is_one (aWord w) (aWord v) e)
-word-one (word.Word w) word.NoWord e = ap wordOf (is_one (aWord w) no_word e)
-word-one (word.Word w) (word.Refused r) e = is-not-no (aWord w) (number_of r) e
-word-one word.NoWord (word.Word v) e = ap wordOf (is_one no_word (aWord v) e)
+pub word-one : (a b : WordRead) → told_word a ≡ told_word b → a ≡ b
+unfolding word_of
+word-one (word.Word w) (word.Word v) e = ap word_of (is_one (a_word w) (a_word v) e)
+word-one (word.Word w) word.NoWord e = ap word_of (is_one (a_word w) no_word e)
+word-one (word.Word w) (word.Refused r) e = is-not-no (a_word w) (number_of r) e
+word-one word.NoWord (word.Word v) e = ap word_of (is_one no_word (a_word v) e)
 word-one word.NoWord word.NoWord e = refl
 word-one word.NoWord (word.Refused r) e = is-not-no no_word (number_of r) e
-word-one (word.Refused r) (word.Word v) e = is-not-no (aWord v) (number_of r) (sym e)
+word-one (word.Refused r) (word.Word v) e = is-not-no (a_word v) (number_of r) (sym e)
 word-one (word.Refused r) word.NoWord e = is-not-no no_word (number_of r) (sym e)
 word-one (word.Refused r) (word.Refused q) e = ap word.Refused (number-one r q (no_one (number_of r) (number_of q) e))
 
 -- ---- a store
 
-storedOf : Ending → Stored
-storedOf done = stored.Done
-storedOf failed = stored.Failed
+stored_of : Ending → Stored
+stored_of done = stored.Done
+stored_of failed = stored.Failed
 
-pub stored_one : (a b : Stored) → toldStore a ≡ toldStore b → a ≡ b
-unfolding storedOf
+pub stored_one : (a b : Stored) → told_store a ≡ told_store b → a ≡ b
+unfolding stored_of
 stored_one stored.Done stored.Done e = refl
-stored_one stored.Done stored.Failed e = ap storedOf (is_one done failed e)
+stored_one stored.Done stored.Failed e = ap stored_of (is_one done failed e)
 stored_one stored.Done (stored.Refused r) e = is-not-no done (number_of r) e
-stored_one stored.Failed stored.Done e = ap storedOf (is_one failed done e)
+stored_one stored.Failed stored.Done e = ap stored_of (is_one failed done e)
 stored_one stored.Failed stored.Failed e = refl
 stored_one stored.Failed (stored.Refused r) e = is-not-no failed (number_of r) e
 stored_one (stored.Refused r) stored.Done e = is-not-no done (number_of r) (sym e)

@@ -15,30 +15,30 @@ use Rattle.map.specs.declared.Place.TheVariants.{Linear, Bank, Nowhere}
 use Rattle.base.proofs.Tests.{clash}
 use Rattle.map.proofs.PlaceLaws.{SameByte, Within}
 use Rattle.map.proofs.Laws.{linear-somewhere, bank-somewhere, nowhere-not}
-use Rattle.memory.specs.Bytes.{Lent, lent, readIn, get, put}
+use Rattle.memory.specs.Bytes.{Lent, lent, read_in, get, put}
 use Rattle.memory.specs.declared.Read.{Read}
 use Rattle.memory.specs.declared.Read.TheVariants.{Byte, Unmapped}
 
 -- ---- one buffer
 
 module _ (bytes : List ℕ) (i : ℕ) (p : Place) where
-  read-in-own : (v : ℕ) → i < length bytes → readIn (set bytes i v) i p ≡ Byte v p
-  unfolding readIn
+  read-in-own : (v : ℕ) → i < length bytes → read_in (set bytes i v) i p ≡ Byte v p
+  unfolding read_in
   read-in-own v h = rw (length-set, lt-ltb i (length bytes) h, get_or-set_same bytes i v 0 h)
 
-  read-in-other : (j v : ℕ) → (i ≡ j → ⊥) → readIn (set bytes j v) i p ≡ readIn bytes i p
-  unfolding readIn
+  read-in-other : (j v : ℕ) → (i ≡ j → ⊥) → read_in (set bytes j v) i p ≡ read_in bytes i p
+  unfolding read_in
   read-in-other j v n = rw (length-set, get_or-set_other bytes j i v 0 n)
 
-  read-in-byte : (x : ℕ) (q : Place) → readIn bytes i p ≡ Byte x q → get_or bytes i 0 ≡ x
-  unfolding readIn
+  read-in-byte : (x : ℕ) (q : Place) → read_in bytes i p ≡ Byte x q → get_or bytes i 0 ≡ x
+  unfolding read_in
   read-in-byte x q = go (ltb i (length bytes))
     where
       go : (t : Bool) → cond t (Byte (get_or bytes i 0) p) Unmapped ≡ Byte x q → get_or bytes i 0 ≡ x
       go true e = cc
       go false e = let z : ◌≡◌ {A = ℕ} 0 1 = cc in omega arith
 
-  put-again : (v x : ℕ) (q : Place) → readIn bytes i p ≡ Byte x q → set (set bytes i v) i x ≡ bytes
+  put-again : (v x : ℕ) (q : Place) → read_in bytes i p ≡ Byte x q → set (set bytes i v) i x ≡ bytes
   put-again v x q e = set-set bytes i v x ∙ ap (set bytes i) (sym (read-in-byte x q e)) ∙ set-get_or bytes i 0
 
 -- ---- both
@@ -92,7 +92,7 @@ put-none Nowhere s v e = refl
 
 -- a byte is at each place within the bytes that are lent
 pub get-some : (q : Place) (s : Lent) → Within q (length s.mem) (length s.dev) → somewhere q ≡ true → (x : ℕ) × (get q s ≡ Byte x q)
-unfolding get readIn
+unfolding get read_in
 get-some (Linear i) s w h = (get_or s.mem i 0, rw (lt-ltb i (length s.mem) (omega (arith, w))))
 get-some (Bank n o i) s w h = (get_or s.dev i 0, rw (lt-ltb i (length s.dev) w))
 get-some Nowhere s w h = clash (sym nowhere-not ∙ h)
@@ -104,11 +104,11 @@ found Unmapped = false
 
 -- it is where there is a place
 pub get-found : (q : Place) (s : Lent) → Within q (length s.mem) (length s.dev) → found (get q s) ≡ somewhere q
-unfolding get readIn
+unfolding get read_in
 get-found (Linear i) s w = rw (lt-ltb i (length s.mem) (omega (arith, w))) (sym (linear-somewhere i))
 get-found (Bank n o i) s w = rw (lt-ltb i (length s.dev) w) (sym (bank-somewhere n o i))
 get-found Nowhere s w = sym nowhere-not
 
 pub get-linear : (s : Lent) (i : ℕ) → i < length s.mem → get (Linear i) s ≡ Byte (get_or s.mem i 0) (Linear i)
-unfolding get readIn
+unfolding get read_in
 get-linear s i h = rw (lt-ltb i (length s.mem) h)

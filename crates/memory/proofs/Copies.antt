@@ -13,14 +13,14 @@ use Rattle.base.specs.Choice.{cond}
 use Rattle.map.specs.Valid.{valid}
 use Rattle.map.specs.declared.Map.{Map}
 use Rattle.map.specs.declared.Place.{Place}
-use Rattle.memory.specs.Bytes.{Lent, readByte}
-use Rattle.memory.specs.Blocks.{untilUnmapped, readBytes, over, Counted, numbered, readOrder, counting, copying, readNumber, readOut, readOutBuffer}
+use Rattle.memory.specs.Bytes.{Lent, read_byte}
+use Rattle.memory.specs.Blocks.{until_unmapped, read_bytes, over, Counted, numbered, read_order, counting, copying, read_number, read_out, read_out_buffer}
 use Rattle.memory.specs.declared.Read.{Read}
 use Rattle.memory.specs.declared.Read.TheVariants.{Byte, Unmapped}
 
 -- i bytes are copied, and the rest of the buffer is as it was
 pub record Copied (m : Map) (s : Lent) (start size : ℕ) (out₀ out : List ℕ) (i : ℕ) : Type 0 where
-  pub front : readBytes m s start size ≡ take i out ++ readBytes m s (start + i) (size - i)
+  pub front : read_bytes m s start size ≡ take i out ++ read_bytes m s (start + i) (size - i)
   pub back : drop i out ≡ drop i out₀
 
 module _ (m : Map) (s : Lent) (start size : ℕ) where
@@ -32,27 +32,27 @@ module _ (m : Map) (s : Lent) (start size : ℕ) where
 
   module _ (out₀ out : List ℕ) (i : ℕ) (r : Copied m s start size out₀ out i) (l : i ≤ length out) where
     -- where nothing more is to be read
-    copied_all : readBytes m s (start + i) (size - i) ≡ [] → (i ≡ length (readBytes m s start size)) × (out ≡ over (readBytes m s start size) out₀)
+    copied_all : read_bytes m s (start + i) (size - i) ≡ [] → (i ≡ length (read_bytes m s start size)) × (out ≡ over (read_bytes m s start size) out₀)
     unfolding over
     copied_all e =
-        let w : readBytes m s start size ≡ take i out = r.front ∙ rw (e, append-nil) in
+        let w : read_bytes m s start size ≡ take i out = r.front ∙ rw (e, append-nil) in
         let n : length (take i out) ≡ i = length-take-le i out l in
         (rw (w, n), rw (w, n, ← r.back, take-append-drop))
 
-    pub copied-end : size ≤ i → (i ≡ length (readBytes m s start size)) × (out ≡ over (readBytes m s start size) out₀)
-    unfolding readBytes
+    pub copied-end : size ≤ i → (i ≡ length (read_bytes m s start size)) × (out ≡ over (read_bytes m s start size) out₀)
+    unfolding read_bytes
     copied-end h = let f : size - i ≡ 0 = omega arith in copied_all (rw f)
 
     module _ (h : i < size) where
       next : size - i ≡ suc (size - (i + 1))
       next = omega arith
 
-      pub copied-stop : readByte m s (start + i) ≡ Unmapped → (i ≡ length (readBytes m s start size)) × (out ≡ over (readBytes m s start size) out₀)
-      unfolding readBytes untilUnmapped
+      pub copied-stop : read_byte m s (start + i) ≡ Unmapped → (i ≡ length (read_bytes m s start size)) × (out ≡ over (read_bytes m s start size) out₀)
+      unfolding read_bytes until_unmapped
       copied-stop e = copied_all (rw (next, e))
 
-      pub copied_more : (v : ℕ) (p : Place) → readByte m s (start + i) ≡ Byte v p → i < length out → Copied m s start size out₀ (set out i v) (i + 1)
-      unfolding readBytes untilUnmapped
+      pub copied_more : (v : ℕ) (p : Place) → read_byte m s (start + i) ≡ Byte v p → i < length out → Copied m s start size out₀ (set out i v) (i + 1)
+      unfolding read_bytes until_unmapped
       copied_more v p e g =
           let t : take (i + 1) (set out i v) ≡ take i out ++ (v ∷ []) = rw add-one (take-suc-set out i v g) in
           let a : start + (i + 1) ≡ start + i + 1 = omega arith in
@@ -64,41 +64,41 @@ module _ (m : Map) (s : Lent) (start size : ℕ) where
 -- ---- the answers, with the buffer after each
 
 pub record Answered (m : Map) (s : Lent) (start size : ℕ) (out : List ℕ) (n : Counted) (out₁ : List ℕ) : Type 0 where
-  pub answer : n ≡ readOut m s start size (length out)
-  pub buffer : out₁ ≡ readOutBuffer m s start size out
+  pub answer : n ≡ read_out m s start size (length out)
+  pub buffer : out₁ ≡ read_out_buffer m s start size out
 
 module _ (m : Map) (s : Lent) (start size : ℕ) (out : List ℕ) where
   pub out-1 : valid m s.dev ≡ false → Answered m s start size out (numbered 1 0) out
-  unfolding readOut readOutBuffer readNumber counting copying
+  unfolding read_out read_out_buffer read_number counting copying
   out-1 e = record { answer = rw e; buffer = rw e }
 
   module _ (e : valid m s.dev ≡ true) where
     pub out-12 : 65535 < start + size → Answered m s start size out (numbered 12 0) out
-    unfolding readOut readOutBuffer readNumber readOrder counting copying
+    unfolding read_out read_out_buffer read_number read_order counting copying
     out-12 h = record { answer = rw (e, lt-ltb _ _ h); buffer = rw (e, lt-ltb _ _ h) }
 
     module _ (h : start + size ≤ 65535) where
       pub out-19 : length out < size → Answered m s start size out (numbered 19 0) out
-      unfolding readOut readOutBuffer readNumber readOrder counting copying
+      unfolding read_out read_out_buffer read_number read_order counting copying
       out-19 f = record { answer = rw (e, le-ltb _ _ h, lt-ltb _ _ f); buffer = rw (e, le-ltb _ _ h, lt-ltb _ _ f) }
 
-      pub out-0 : size ≤ length out → Answered m s start size out (numbered 0 (length (readBytes m s start size))) (over (readBytes m s start size) out)
-      unfolding readOut readOutBuffer readNumber readOrder counting copying
+      pub out-0 : size ≤ length out → Answered m s start size out (numbered 0 (length (read_bytes m s start size))) (over (read_bytes m s start size) out)
+      unfolding read_out read_out_buffer read_number read_order counting copying
       out-0 f = record { answer = rw (e, le-ltb _ _ h, le-ltb _ _ f); buffer = rw (e, le-ltb _ _ h, le-ltb _ _ f) }
 
 -- ---- how many bytes are read
 
-until-length : (r : Read) (rest : List ℕ) (n : ℕ) → length rest ≤ n → length (untilUnmapped r rest) ≤ suc n
-unfolding untilUnmapped
+until-length : (r : Read) (rest : List ℕ) (n : ℕ) → length rest ≤ n → length (until_unmapped r rest) ≤ suc n
+unfolding until_unmapped
 until-length (Byte v p) rest n h = omega arith
 until-length Unmapped rest n h = omega arith
 
 module _ (m : Map) (s : Lent) where
   -- no more bytes than were asked for
-  pub read_length : (start size : ℕ) → length (readBytes m s start size) ≤ size
-  unfolding readBytes
+  pub read_length : (start size : ℕ) → length (read_bytes m s start size) ≤ size
+  unfolding read_bytes
   read_length start zero = omega arith
-  read_length start (suc n) = until-length (readByte m s start) (readBytes m s (start + 1) n) n (read_length (start + 1) n)
+  read_length start (suc n) = until-length (read_byte m s start) (read_bytes m s (start + 1) n) n (read_length (start + 1) n)
 
   module _ (start size : ℕ) where
     -- what passes 12 counts at most 65,535 bytes
@@ -106,6 +106,6 @@ module _ (m : Map) (s : Lent) where
     unfolding counting
     counting-most n h = go (eqb n 0) refl
       where
-        go : (t : Bool) → eqb n 0 ≡ t → (cond t (numbered 0 (length (readBytes m s start size))) (numbered n 0)).count ≤ 65535
+        go : (t : Bool) → eqb n 0 ≡ t → (cond t (numbered 0 (length (read_bytes m s start size))) (numbered n 0)).count ≤ 65535
         go true e = omega (arith, h e, read_length start size)
         go false e = omega arith

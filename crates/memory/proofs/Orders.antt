@@ -11,30 +11,30 @@ use Rattle.base.specs.Choice.{cond}
 use Rattle.base.specs.Order.{first_of}
 use Rattle.base.proofs.OrderLaws.{passed}
 use Rattle.map.specs.Valid.{valid}
-use Rattle.map.specs.Entries.{region, withRegion}
+use Rattle.map.specs.Entries.{region, with_region}
 use Rattle.map.specs.declared.Map.{Map}
 use Rattle.memory.specs.Bytes.{Lent}
-use Rattle.memory.specs.Blocks.{numbered, readOrder, counting, copying, readNumber, readOut, readOutBuffer}
-use Rattle.memory.specs.Program.{store_words, loadOrder, loadNumber, begins, loadBytes, loadMap}
+use Rattle.memory.specs.Blocks.{numbered, read_order, counting, copying, read_number, read_out, read_out_buffer}
+use Rattle.memory.specs.Program.{store_words, load_order, load_number, begins, load_bytes, load_map}
 
 -- ---- load
 
 module _ (m : Map) (s : Lent) (program : List ℕ) where
-  pub load-order : valid m s.dev ≡ true → loadNumber m s program ≡ first_of (loadOrder m s program)
-  unfolding loadNumber
+  pub load-order : valid m s.dev ≡ true → load_number m s program ≡ first_of (load_order m s program)
+  unfolding load_number
   load-order v = rw v
 
-  pub load-map : loadMap m s program ≡ cond (eqb (loadNumber m s program) 0) (withRegion m (region 0 (length program))) m
-  unfolding loadMap
+  pub load-map : load_map m s program ≡ cond (eqb (load_number m s program) 0) (with_region m (region 0 (length program))) m
+  unfolding load_map
   load-map = refl
 
-  pub load-bytes : valid m s.dev ≡ true → loadBytes m s program ≡ cond (begins m program) (store_words m s 0 program).bytes s
-  unfolding loadBytes
+  pub load-bytes : valid m s.dev ≡ true → load_bytes m s program ≡ cond (begins m program) (store_words m s 0 program).bytes s
+  unfolding load_bytes
   load-bytes v = rw v
 
   -- too many words
-  pub load-long : 32768 < length program → first_of (loadOrder m s program) ≡ 16
-  unfolding loadOrder
+  pub load-long : 32768 < length program → first_of (load_order m s program) ≡ 16
+  unfolding load_order
   load-long h = rw (lt-ltb 32768 (length program) h)
 
   pub long-begins : 32768 < length program → begins m program ≡ false
@@ -44,25 +44,25 @@ module _ (m : Map) (s : Lent) (program : List ℕ) where
 -- ---- reading memory out
 
 module _ (start size room : ℕ) where
-  pub read-far : 65535 < start + size → first_of (readOrder start size room) ≡ 12
-  unfolding readOrder
+  pub read-far : 65535 < start + size → first_of (read_order start size room) ≡ 12
+  unfolding read_order
   read-far h = rw (lt-ltb 65535 (start + size) h)
 
-  pub read-near : eqb (first_of (readOrder start size room)) 0 ≡ true → start + size ≤ 65535
-  unfolding readOrder
-  read-near a = ltb-false 65535 (start + size) (passed (readOrder start size room) a).0
+  pub read-near : eqb (first_of (read_order start size room)) 0 ≡ true → start + size ≤ 65535
+  unfolding read_order
+  read-near a = ltb-false 65535 (start + size) (passed (read_order start size room) a).0
 
 module _ (m : Map) (s : Lent) (start size : ℕ) where
-  pub read-order : (room : ℕ) → valid m s.dev ≡ true → readNumber m s start size room ≡ first_of (readOrder start size room)
-  unfolding readNumber
+  pub read-order : (room : ℕ) → valid m s.dev ≡ true → read_number m s start size room ≡ first_of (read_order start size room)
+  unfolding read_number
   read-order room v = rw v
 
-  pub read-counts : (room : ℕ) → readOut m s start size room ≡ counting m s start size (readNumber m s start size room)
-  unfolding readOut
+  pub read-counts : (room : ℕ) → read_out m s start size room ≡ counting m s start size (read_number m s start size room)
+  unfolding read_out
   read-counts room = refl
 
-  pub read-copies : (buffer : List ℕ) → readOutBuffer m s start size buffer ≡ copying m s start size (readNumber m s start size (length buffer)) buffer
-  unfolding readOutBuffer
+  pub read-copies : (buffer : List ℕ) → read_out_buffer m s start size buffer ≡ copying m s start size (read_number m s start size (length buffer)) buffer
+  unfolding read_out_buffer
   read-copies buffer = refl
 
   -- a refusal copies nothing

@@ -9,17 +9,17 @@ use Rattle.memory.specs.declared.Read.{Read}
 use Rattle.memory.specs.declared.Read.TheVariants.{Byte, Unmapped}
 use Rattle.memory.specs.declared.ReadOut.{ReadOut}
 use Rattle.memory.specs.declared.ReadOut.TheVariants.{Count, Refused}
-use Rattle.memory.specs.Bytes.{Lent, readByte}
+use Rattle.memory.specs.Bytes.{Lent, read_byte}
 
 -- a byte that was read, before those after it; nothing from an unmapped one on
-unfoldable pub untilUnmapped : Read → List ℕ → List ℕ
-untilUnmapped (Byte v p) rest = v ∷ rest
-untilUnmapped Unmapped rest = []
+unfoldable pub until_unmapped : Read → List ℕ → List ℕ
+until_unmapped (Byte v p) rest = v ∷ rest
+until_unmapped Unmapped rest = []
 
 -- the bytes from address a on, at most n, up to the first unmapped one
-unfoldable pub readBytes : Map → Lent → ℕ → ℕ → List ℕ
-readBytes m s a zero = []
-readBytes m s a (suc n) = untilUnmapped (readByte m s a) (readBytes m s (a + 1) n)
+unfoldable pub read_bytes : Map → Lent → ℕ → ℕ → List ℕ
+read_bytes m s a zero = []
+read_bytes m s a (suc n) = until_unmapped (read_byte m s a) (read_bytes m s (a + 1) n)
 
 -- bytes at the start of a buffer
 unfoldable pub over : List ℕ → List ℕ → List ℕ
@@ -38,22 +38,22 @@ counted (Count n) = numbered 0 n
 counted (Refused r) = numbered (number_of r) 0
 
 -- reading memory out: 12, 19; with room bytes in the buffer
-unfoldable pub readOrder : ℕ → ℕ → ℕ → List Refusing
-readOrder start size room = 12 when ltb 65535 (start + size) ∷ 19 when ltb room size ∷ []
+unfoldable pub read_order : ℕ → ℕ → ℕ → List Refusing
+read_order start size room = 12 when ltb 65535 (start + size) ∷ 19 when ltb room size ∷ []
 
 -- the count of bytes that were read, or a refusal and none
 unfoldable pub counting : Map → Lent → ℕ → ℕ → ℕ → Counted
-counting m s start size n = cond (eqb n 0) (numbered 0 (length (readBytes m s start size))) (numbered n 0)
+counting m s start size n = cond (eqb n 0) (numbered 0 (length (read_bytes m s start size))) (numbered n 0)
 
 unfoldable pub copying : Map → Lent → ℕ → ℕ → ℕ → List ℕ → List ℕ
-copying m s start size n buffer = cond (eqb n 0) (over (readBytes m s start size) buffer) buffer
+copying m s start size n buffer = cond (eqb n 0) (over (read_bytes m s start size) buffer) buffer
 
 -- 1 first
-unfoldable pub readNumber : Map → Lent → ℕ → ℕ → ℕ → ℕ
-readNumber m s start size room = first_of (1 when not (valid m s.dev) ∷ readOrder start size room)
+unfoldable pub read_number : Map → Lent → ℕ → ℕ → ℕ → ℕ
+read_number m s start size room = first_of (1 when not (valid m s.dev) ∷ read_order start size room)
 
-unfoldable pub readOut : Map → Lent → ℕ → ℕ → ℕ → Counted
-readOut m s start size room = counting m s start size (readNumber m s start size room)
+unfoldable pub read_out : Map → Lent → ℕ → ℕ → ℕ → Counted
+read_out m s start size room = counting m s start size (read_number m s start size room)
 
-unfoldable pub readOutBuffer : Map → Lent → ℕ → ℕ → List ℕ → List ℕ
-readOutBuffer m s start size buffer = copying m s start size (readNumber m s start size (length buffer)) buffer
+unfoldable pub read_out_buffer : Map → Lent → ℕ → ℕ → List ℕ → List ℕ
+read_out_buffer m s start size buffer = copying m s start size (read_number m s start size (length buffer)) buffer

@@ -17,12 +17,12 @@ abbrev pub lent : List ℕ → List ℕ → Lent
 lent m d = record { mem = m; dev = d }
 
 -- the byte at an index of a buffer, which is that of the place p
-unfoldable pub readIn : List ℕ → ℕ → Place → Read
-readIn bytes i p = cond (ltb i (length bytes)) (Byte (get_or bytes i 0) p) Unmapped
+unfoldable pub read_in : List ℕ → ℕ → Place → Read
+read_in bytes i p = cond (ltb i (length bytes)) (Byte (get_or bytes i 0) p) Unmapped
 
 unfoldable pub get : Place → Lent → Read
-get (Linear i) s = readIn s.mem i (Linear i)
-get (Bank n o i) s = readIn s.dev i (Bank n o i)
+get (Linear i) s = read_in s.mem i (Linear i)
+get (Bank n o i) s = read_in s.dev i (Bank n o i)
 get Nowhere s = Unmapped
 
 -- nothing changes past the end of the bytes that are lent
@@ -35,16 +35,16 @@ put Nowhere s v = s
 unfoldable pub place_in : Map → Lent → ℕ → Place
 place_in m s a = place m (length s.mem) (length s.dev) a
 
-unfoldable pub targetIn : Map → Lent → ℕ → Place
-targetIn m s a = target m (length s.mem) (length s.dev) a
+unfoldable pub target_in : Map → Lent → ℕ → Place
+target_in m s a = target m (length s.mem) (length s.dev) a
 
-unfoldable pub readByte : Map → Lent → ℕ → Read
-readByte m s a = get (place_in m s a) s
+unfoldable pub read_byte : Map → Lent → ℕ → Read
+read_byte m s a = get (place_in m s a) s
 
 -- a store at the address is made
 unfoldable pub takes : Map → Lent → ℕ → Bool
-takes m s a = somewhere (targetIn m s a)
+takes m s a = somewhere (target_in m s a)
 
 -- the bytes after a store, made or not
-unfoldable pub storeByte : Map → Lent → ℕ → ℕ → Lent
-storeByte m s a v = put (targetIn m s a) s v
+unfoldable pub store_byte : Map → Lent → ℕ → ℕ → Lent
+store_byte m s a v = put (target_in m s a) s v

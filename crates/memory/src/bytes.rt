@@ -1,6 +1,6 @@
 // One byte: read where it is, stored where it goes.
 ghost use Rattle.std.specs.Prelude.{◌≡◌};
-ghost use Rattle.memory.specs.Bytes.{lent, get, put, readByte, takes, storeByte};
+ghost use Rattle.memory.specs.Bytes.{lent, get, put, read_byte, takes, store_byte};
 
 use crate::Read;
 use map::{Map, Place};
@@ -56,7 +56,7 @@ pub fn store_at(p: Place, mem: &mut [u8], dev: &mut [u8], v: u8)
 }
 
 pub fn read_byte(m: Map, mem: &[u8], dev: &[u8], a: u16) -> Read
-    ensures { result ≡ readByte m (lent mem.now dev.now) a }
+    ensures { result ≡ read_byte m (lent mem.now dev.now) a }
 {
     let p = map::place_of(m, mem.len(), dev.len(), a);
     read_at(p, mem, dev)
@@ -73,7 +73,7 @@ pub fn takes_byte(m: Map, mem: &[u8], dev: &[u8], a: u16) -> bool
 // Stores a byte; whether it was stored.
 pub fn store_byte(m: Map, mem: &mut [u8], dev: &mut [u8], a: u16, v: u8) -> bool
     ensures value { result ≡ takes m (lent mem.old dev.old) a }
-    ensures dev_after { lent mem.new dev.new ≡ storeByte m (lent mem.old dev.old) a v }
+    ensures dev_after { lent mem.new dev.new ≡ store_byte m (lent mem.old dev.old) a v }
 {
     let p = map::target_of(m, mem.len(), dev.len(), a);
     store_at(p, mem, dev, v);

@@ -1,9 +1,9 @@
 // A program: its words stored from address 0 on, then a region over as many bytes as it has words.
 ghost use Rattle.std.specs.Prelude.{◌≡◌, length, ◌≤◌};
-ghost use Rattle.base.specs.Numbers.{answerNumber};
+ghost use Rattle.base.specs.Numbers.{answer_number};
 ghost use Rattle.memory.specs.Bytes.{lent};
-ghost use Rattle.memory.specs.Words.{toldStore, isDone};
-ghost use Rattle.memory.specs.Program.{store_words, loadNumber, loadMap, loadBytes};
+ghost use Rattle.memory.specs.Words.{told_store, is_done};
+ghost use Rattle.memory.specs.Program.{store_words, load_number, load_map, load_bytes};
 
 use crate::Stored;
 use crate::words::store_word;
@@ -11,7 +11,7 @@ use base::{InstructionIndex, Refusal};
 use map::{Map, Mapped, Region};
 
 fn is_done(r: Stored) -> bool
-    ensures { result ≡ isDone (toldStore r) }
+    ensures { result ≡ is_done (told_store r) }
 {
     match r {
         Stored::Done => true,
@@ -40,9 +40,9 @@ fn store_words(m: Map, mem: &mut [u8], dev: &mut [u8], words: &[u16]) -> bool
 
 // Loads a program: 1, 16, 14, 15, 13. What was stored stays where the answer is 15 or 13.
 pub fn write_program(m: Map, mem: &mut [u8], dev: &mut [u8], words: &[u16]) -> Mapped
-    ensures answer_value { answerNumber result.answer ≡ loadNumber m (lent mem.old dev.old) words.now }
-    ensures map_value { result.map ≡ loadMap m (lent mem.old dev.old) words.now }
-    ensures dev_after { lent mem.new dev.new ≡ loadBytes m (lent mem.old dev.old) words.now }
+    ensures answer_value { answer_number result.answer ≡ load_number m (lent mem.old dev.old) words.now }
+    ensures map_value { result.map ≡ load_map m (lent mem.old dev.old) words.now }
+    ensures dev_after { lent mem.new dev.new ≡ load_bytes m (lent mem.old dev.old) words.now }
 {
     if !map::valid(m, dev) {
         return map::refused(Refusal::BadState, m);

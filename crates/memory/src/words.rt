@@ -3,7 +3,7 @@ ghost use Rattle.std.specs.Prelude.{◌≡◌};
 ghost use Rattle.base.specs.Told.{is};
 ghost use Rattle.base.specs.Words.{high_of};
 ghost use Rattle.memory.specs.Bytes.{lent};
-ghost use Rattle.memory.specs.Words.{toldWord, joined, readWord, toldStore, byteStored, wordStored, storeWord, decided, decides, byteDecision, highChange, wordDecision, made};
+ghost use Rattle.memory.specs.Words.{told_word, joined, read_word, told_store, byte_stored, word_stored, store_word, decided, decides, byte_decision, high_change, word_decision, made};
 
 use crate::bytes::{read_byte, store_at};
 use crate::{Change, Changes, Decision, Read, Stored, WordRead};
@@ -11,7 +11,7 @@ use base::{Reached, Refusal};
 use map::Map;
 
 fn join(low: u8, high: Read) -> WordRead
-    ensures { toldWord result ≡ is (joined low high) }
+    ensures { told_word result ≡ is (joined low high) }
 {
     match high {
         Read::Byte(v, _) => WordRead::Word(base::word(low, v)),
@@ -20,7 +20,7 @@ fn join(low: u8, high: Read) -> WordRead
 }
 
 pub fn read_word(m: Map, mem: &[u8], dev: &[u8], a: u16) -> WordRead
-    ensures { toldWord result ≡ readWord m (lent mem.now dev.now) a }
+    ensures { told_word result ≡ read_word m (lent mem.now dev.now) a }
 {
     match read_byte(m, mem, dev, a) {
         Read::Byte(low, _) => {
@@ -35,7 +35,7 @@ pub fn read_word(m: Map, mem: &[u8], dev: &[u8], a: u16) -> WordRead
 
 // The same, faster where both bytes are linear: they are read at once.
 pub fn fetch_word(m: Map, mem: &[u8], dev: &[u8], a: u16) -> WordRead
-    ensures { toldWord result ≡ readWord m (lent mem.now dev.now) a }
+    ensures { told_word result ≡ read_word m (lent mem.now dev.now) a }
 {
     if map::is_linear_word(m, mem.len(), a) {
         let i = a as usize;
@@ -52,7 +52,7 @@ pub fn fetch_word(m: Map, mem: &[u8], dev: &[u8], a: u16) -> WordRead
 
 // What storing a byte comes to.
 pub fn decide_byte(m: Map, mem: &[u8], dev: &[u8], a: u16, v: u8) -> Decision
-    ensures { decided result ≡ byteDecision m (lent mem.now dev.now) a v }
+    ensures { decided result ≡ byte_decision m (lent mem.now dev.now) a v }
 {
     let place = map::target_of(m, mem.len(), dev.len(), a);
     if !map::is_somewhere(place) {
@@ -74,7 +74,7 @@ pub fn decide_byte(m: Map, mem: &[u8], dev: &[u8], a: u16, v: u8) -> Decision
 
 // What storing a word comes to.
 pub fn decide_word(m: Map, mem: &[u8], dev: &[u8], a: u16, w: u16) -> Decision
-    ensures { decided result ≡ wordDecision m (lent mem.now dev.now) a w }
+    ensures { decided result ≡ word_decision m (lent mem.now dev.now) a w }
 {
     let place = map::target_of(m, mem.len(), dev.len(), a);
     if !map::is_somewhere(place) {
@@ -99,7 +99,7 @@ pub fn decide_word(m: Map, mem: &[u8], dev: &[u8], a: u16, w: u16) -> Decision
 
 // The same, once the low byte is known to be taken and the high byte to have an address.
 fn decide_high(m: Map, mem: &[u8], dev: &[u8], a: u16, w: u16, first: Change) -> Decision
-    ensures { decided result ≡ decides (is (byteStored m (lent mem.now dev.now) a)) (highChange m (lent mem.now dev.now) a (high_of w) first) }
+    ensures { decided result ≡ decides (is (byte_stored m (lent mem.now dev.now) a)) (high_change m (lent mem.now dev.now) a (high_of w) first) }
 {
     let place = map::target_of(m, mem.len(), dev.len(), a);
     if !map::is_somewhere(place) {
@@ -140,8 +140,8 @@ pub fn make(c: Changes, mem: &mut [u8], dev: &mut [u8])
 
 // Stores a word, low byte first; where the high byte takes no store the low one stays.
 pub fn store_word(m: Map, mem: &mut [u8], dev: &mut [u8], a: u16, w: u16) -> Stored
-    ensures result_value { toldStore result ≡ wordStored m (lent mem.old dev.old) a }
-    ensures dev_after { lent mem.new dev.new ≡ storeWord m (lent mem.old dev.old) a w }
+    ensures result_value { told_store result ≡ word_stored m (lent mem.old dev.old) a }
+    ensures dev_after { lent mem.new dev.new ≡ store_word m (lent mem.old dev.old) a w }
 {
     let d = decide_word(m, &mem[..], &dev[..], a, w);
     let c = d.changes;

@@ -9,7 +9,7 @@ use Rattle.base.specs.Choice.{cond}
 use Rattle.mnemonics.specs.declared.Mnemonic.{Mnemonic}
 use Rattle.mnemonics.specs.declared.Kind.{Kind}
 use Rattle.mnemonics.specs.declared.Kind.TheVariants.{Unknown}
-use Rattle.mnemonics.specs.Mnemonics.{rows, name_of, upper, kindIn, kind_of}
+use Rattle.mnemonics.specs.Mnemonics.{rows, name_of, upper, kind_in, kind_of}
 use Rattle.mnemonics.proofs.Columns.{kinds}
 
 -- a capital letter in lower case
@@ -29,18 +29,18 @@ row-found-lower = refl
 -- two tokens that differ in case alone have one kind
 pub either-case : (s t : List ℕ) → map upper s ≡ map upper t → kind_of s ≡ kind_of t
 unfolding kind_of
-either-case s t e = ap (kindIn rows) e
+either-case s t e = ap (kind_in rows) e
 
 -- some row has this name
 abbrev pub listed : List Mnemonic → List ℕ → Bool
 listed [] name = false
 listed (m ∷ ms) name = same name (name_of m) || listed ms name
 
-unlisted : (ms : List Mnemonic) (name : List ℕ) → listed ms name ≡ false → kindIn ms name ≡ Unknown
+unlisted : (ms : List Mnemonic) (name : List ℕ) → listed ms name ≡ false → kind_in ms name ≡ Unknown
 unlisted [] name e = refl
 unlisted (m ∷ ms) name e = go (same name (name_of m)) (unlisted ms name) e
   where
-    go : (t : Bool) → (listed ms name ≡ false → kindIn ms name ≡ Unknown) → (t || listed ms name) ≡ false → cond t m.kind (kindIn ms name) ≡ Unknown
+    go : (t : Bool) → (listed ms name ≡ false → kind_in ms name ≡ Unknown) → (t || listed ms name) ≡ false → cond t m.kind (kind_in ms name) ≡ Unknown
     go true k e = let z : true ≡ false = e in cc
     go false k e = k e
 

@@ -16,7 +16,7 @@ use Rattle.mnemonics.specs.declared.Mnemonic.{Mnemonic}
 use Rattle.mnemonics.specs.declared.Kind.{Kind}
 use Rattle.mnemonics.specs.declared.Kind.TheVariants.{Unknown}
 use Rattle.mnemonics.specs.Mnemonics.{rows, upper}
-use Rattle.mnemonics.specs.Tables.{firstRow}
+use Rattle.mnemonics.specs.Tables.{first_row}
 
 -- ---- a token t and a name, byte after byte
 
@@ -36,13 +36,13 @@ length-differs t name h = same-lengths (map upper t) name (λ e. h (sym (length-
 -- ---- a table, row after row; d is what stands past its end
 
 module _ {A B : Type 0} (passes : A → Bool) (says : A → B) (none : B) (rows : List A) (d : A) (i : ℕ) where
-  pub row-hit : i < length rows → passes (get_or rows i d) ≡ true → firstRow passes says none (drop i rows) ≡ says (get_or rows i d)
+  pub row-hit : i < length rows → passes (get_or rows i d) ≡ true → first_row passes says none (drop i rows) ≡ says (get_or rows i d)
   row-hit h e = rw (drop-cons rows i d, e)
 
-  pub row-miss : i < length rows → passes (get_or rows i d) ≡ false → firstRow passes says none (drop i rows) ≡ firstRow passes says none (drop (i + 1) rows)
+  pub row-miss : i < length rows → passes (get_or rows i d) ≡ false → first_row passes says none (drop i rows) ≡ first_row passes says none (drop (i + 1) rows)
   row-miss h e = rw (add-one, drop-cons rows i d, e)
 
-  pub rows_end : length rows ≤ i → firstRow passes says none (drop i rows) ≡ none
+  pub rows_end : length rows ≤ i → first_row passes says none (drop i rows) ≡ none
   rows_end h = rw drop_of_length-le
 
 -- a rule that is tested once over a table holds of each row

@@ -5,7 +5,7 @@ use Rattle.base.specs.Choice.{cond}
 use Rattle.instruction.specs.declared.ArithOp.TheVariants as four
 use Rattle.instruction.specs.declared.ArithmeticOp.TheVariants as seven
 use Rattle.instruction.specs.declared.CompareOp.TheVariants.{Eq, NotEq, Less, LessEq, Greater, GreaterEq}
-use Rattle.mnemonics.specs.Tables.{padded, firstRow}
+use Rattle.mnemonics.specs.Tables.{padded, first_row}
 use Rattle.mnemonics.specs.declared.Kind.{Kind}
 use Rattle.mnemonics.specs.declared.Kind.TheVariants.{Unknown, Dbg, Mov, MovShift, Copy, Arith, ArithRegReg, Transfer, Jump, Compare, Ret, Call}
 use Rattle.mnemonics.specs.declared.Mnemonic.{Mnemonic}
@@ -57,8 +57,8 @@ unfoldable pub upper : ℕ → ℕ
 upper b = cond (leb 97 b && leb b 122) (b - 32) b
 
 -- the kind of the first row with this name
-abbrev pub kindIn : List Mnemonic → List ℕ → Kind
-kindIn ms name = firstRow (λ (m : Mnemonic). same name (name_of m)) (λ (m : Mnemonic). m.kind) Unknown ms
+abbrev pub kind_in : List Mnemonic → List ℕ → Kind
+kind_in ms name = first_row (λ (m : Mnemonic). same name (name_of m)) (λ (m : Mnemonic). m.kind) Unknown ms
 
 unfoldable pub kind_of : List ℕ → Kind
-kind_of token = kindIn rows (map upper token)
+kind_of token = kind_in rows (map upper token)

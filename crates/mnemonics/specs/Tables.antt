@@ -7,6 +7,6 @@ abbrev pub padded : List ℕ → List ℕ
 padded name = name ++ replicate (5 - length name) 0
 
 -- what the first row says that passes a test; or what is said where none does
-abbrev pub firstRow : {A B : Type 0} → (A → Bool) → (A → B) → B → List A → B
-firstRow passes says none [] = none
-firstRow passes says none (r ∷ rs) = cond (passes r) (says r) (firstRow passes says none rs)
+abbrev pub first_row : {A B : Type 0} → (A → Bool) → (A → B) → B → List A → B
+first_row passes says none [] = none
+first_row passes says none (r ∷ rs) = cond (passes r) (says r) (first_row passes says none rs)

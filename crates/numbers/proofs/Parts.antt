@@ -5,7 +5,7 @@ use mathlib.Core.Path.{◌≡◌}
 use mathlib.Core.Bool.{true}
 use native.Mathlib.Omega.{arith}
 use Rattle.asm.specs.Assemble.{counts}
-use Rattle.numbers.specs.Answers.{coded, assembledNumber}
+use Rattle.numbers.specs.Answers.{coded, assembled_number}
 
 module _ (code above : ℕ) (h : code < 65536) where
   pub the_code : coded code above % 65536 ≡ code
@@ -15,14 +15,14 @@ module _ (code above : ℕ) (h : code < 65536) where
   the-count = omega arith
 
 module _ (words labels waiting : ℕ) (w : words < 65536) (l : labels < 65536) (o : waiting < 65536) where
-  pub no_code : assembledNumber (counts words labels waiting) % 65536 ≡ 0
+  pub no_code : assembled_number (counts words labels waiting) % 65536 ≡ 0
   no_code = omega arith
 
-  pub the-words : assembledNumber (counts words labels waiting) / 65536 % 65536 ≡ words
+  pub the-words : assembled_number (counts words labels waiting) / 65536 % 65536 ≡ words
   the-words = omega arith
 
-  pub the_open : assembledNumber (counts words labels waiting) / 4294967296 % 65536 ≡ waiting
+  pub the_open : assembled_number (counts words labels waiting) / 4294967296 % 65536 ≡ waiting
   the_open = omega arith
 
-  pub the-labels : assembledNumber (counts words labels waiting) / 281474976710656 ≡ labels
+  pub the-labels : assembled_number (counts words labels waiting) / 281474976710656 ≡ labels
   the-labels = omega arith

@@ -6,44 +6,44 @@ use Rattle.machine.specs.Answers.{Reply, Continue, Debug, Stop}
 use Rattle.memory.specs.Blocks.{Counted}
 use Rattle.asm.specs.Assemble.{Report, counts}
 use Rattle.asm.specs.Assemble as Assemble
-use Rattle.source.specs.Source.{Answer, length-of, refusal}
+use Rattle.source.specs.Source.{Answer, length_of, refusal}
 
 abbrev pub coded : ℕ → ℕ → ℕ
 coded code above = code + 65536 * above
 
-abbrev pub stepCode : Told Reply → ℕ
-stepCode (is Continue) = 0
-stepCode (is Debug) = 256
-stepCode (is Stop) = 257
-stepCode (no n) = n
+abbrev pub step_code : Told Reply → ℕ
+step_code (is Continue) = 0
+step_code (is Debug) = 256
+step_code (is Stop) = 257
+step_code (no n) = n
 
 -- ---- reading out: how many bytes were copied
 
-abbrev pub countedNumber : Counted → ℕ
-countedNumber c = coded c.number c.count
+abbrev pub counted_number : Counted → ℕ
+counted_number c = coded c.number c.count
 
 -- ---- the listing: how long it is
 
-abbrev pub listedNumber : Told ℕ → ℕ
-listedNumber (is n) = coded 0 n
-listedNumber (no n) = n
+abbrev pub listed_number : Told ℕ → ℕ
+listed_number (is n) = coded 0 n
+listed_number (no n) = n
 
 -- ---- text for words: how long it is; of a refusal the word's index, for NoText
 
-abbrev pub sourcedNumber : Answer → ℕ
-sourcedNumber (length-of n) = coded 0 n
-sourcedNumber (refusal n index) = coded n index
+abbrev pub sourced_number : Answer → ℕ
+sourced_number (length_of n) = coded 0 n
+sourced_number (refusal n index) = coded n index
 
 -- ---- assembling
 
 -- 2^48 - 1
-abbrev pub mostLines : ℕ
-mostLines = 281474976710655
+abbrev pub most_lines : ℕ
+most_lines = 281474976710655
 
 -- words in bits 16 to 31, open references in 32 to 47, labels in 48 to 63; of a refusal the line, at most 2^48 - 1
-abbrev pub assembledNumber : Report → ℕ
-assembledNumber (counts words labels waiting) = 65536 * words + 4294967296 * waiting + 281474976710656 * labels
-assembledNumber (Assemble.refusal n line) = coded n (min line mostLines)
+abbrev pub assembled_number : Report → ℕ
+assembled_number (counts words labels waiting) = 65536 * words + 4294967296 * waiting + 281474976710656 * labels
+assembled_number (Assemble.refusal n line) = coded n (min line most_lines)
 
 -- ---- for inner functions' contracts alone
 

@@ -1,13 +1,13 @@
 // The number that a C host gets.
 ghost use Rattle.std.specs.Prelude.{◌≡◌, true, ◌≤◌, min};
-ghost use Rattle.base.specs.Numbers.{number_of, answerNumber};
+ghost use Rattle.base.specs.Numbers.{number_of, answer_number};
 ghost use Rattle.machine.specs.Answers.{answered};
 ghost use Rattle.memory.specs.Blocks.{counted};
 ghost use Rattle.printer.specs.Print.{printed};
 ghost use Rattle.asm.specs.Assemble.{reported};
 ghost use Rattle.source.specs.Source.{Small};
 ghost use Rattle.source.specs.Source as Source;
-ghost use Rattle.numbers.specs.Answers.{coded, stepCode, countedNumber, listedNumber, sourcedNumber, mostLines, assembledNumber, fitting};
+ghost use Rattle.numbers.specs.Answers.{coded, step_code, counted_number, listed_number, sourced_number, most_lines, assembled_number, fitting};
 
 use asm::Assembled;
 use base::{Answer, Refusal};
@@ -39,7 +39,7 @@ fn coded(code: u64, above: u64) -> u64
 }
 
 pub fn of_answer(a: Answer) -> u64
-    ensures { result ≡ answerNumber a }
+    ensures { result ≡ answer_number a }
 {
     match a {
         Answer::Accepted => 0,
@@ -48,7 +48,7 @@ pub fn of_answer(a: Answer) -> u64
 }
 
 pub fn of_step(a: StepAnswer) -> u64
-    ensures value { result ≡ stepCode (answered a) }
+    ensures value { result ≡ step_code (answered a) }
     ensures upper_bound { result ≤ 65535 }
 {
     match a {
@@ -60,14 +60,14 @@ pub fn of_step(a: StepAnswer) -> u64
 }
 
 pub fn of_run(a: StepAnswer, count: u32) -> u64
-    ensures { result ≡ coded (stepCode (answered a)) count }
+    ensures { result ≡ coded (step_code (answered a)) count }
 {
     coded(of_step(a), count as u64)
 }
 
 pub fn of_read(a: ReadOut) -> u64
     requires { (counted a).count ≤ 281474976710655 }
-    ensures { result ≡ countedNumber (counted a) }
+    ensures { result ≡ counted_number (counted a) }
 {
     match a {
         ReadOut::Count(n) => coded(0, n as u64),
@@ -76,8 +76,8 @@ pub fn of_read(a: ReadOut) -> u64
 }
 
 pub fn of_list(p: Printed) -> u64
-    requires { listedNumber (printed p) ≤ 18446744073709551615 }
-    ensures { result ≡ listedNumber (printed p) }
+    requires { listed_number (printed p) ≤ 18446744073709551615 }
+    ensures { result ≡ listed_number (printed p) }
 {
     match p {
         Printed::Next(n) => 65536 * (n as u64),
@@ -87,7 +87,7 @@ pub fn of_list(p: Printed) -> u64
 
 pub fn of_text(w: Written) -> u64
     requires { Small (Source.answered w) }
-    ensures { result ≡ sourcedNumber (Source.answered w) }
+    ensures { result ≡ sourced_number (Source.answered w) }
 {
     match w {
         Written::Next(n) => coded(0, n as u64),
@@ -97,7 +97,7 @@ pub fn of_text(w: Written) -> u64
 
 // A line over 2^48 - 1 does not fit above the code.
 fn line_above(line: usize) -> u64
-    ensures value { result ≡ min line mostLines }
+    ensures value { result ≡ min line most_lines }
     ensures upper_bound { result ≤ 281474976710655 }
 {
     if line < 281474976710655 {
@@ -109,7 +109,7 @@ fn line_above(line: usize) -> u64
 
 pub fn of_assembly(a: Assembled) -> u64
     requires { fitting (reported a) ≡ true }
-    ensures { result ≡ assembledNumber (reported a) }
+    ensures { result ≡ assembled_number (reported a) }
 {
     match a {
         Assembled::Accepted(words, labels, waiting) => {

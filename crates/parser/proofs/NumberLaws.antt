@@ -20,13 +20,13 @@ use Rattle.mnemonics.specs.Mnemonics.{kind_of}
 use Rattle.mnemonics.specs.declared.Kind.{Kind}
 use Rattle.mnemonics.specs.declared.Kind.TheVariants as kind
 use Rattle.text.specs.Immediates.{immediate}
-use Rattle.text.specs.Parts.{equals, dropFront, dropEnd}
+use Rattle.text.specs.Parts.{equals, drop_front, drop_end}
 use Rattle.text.proofs.Laws.{immediate-refused}
 use Rattle.parser.specs.declared.Reference.TheVariants as reference
 use Rattle.parser.specs.declared.names.RegisterName.{RegisterName}
 use Rattle.parser.specs.Answers.{Meaning, says, refers, Both, both, Triple, triple, Turn, turn, Place, at}
-use Rattle.parser.specs.Operands.{nth, hash, opening, closing, comma, starts, called, registerNames, registerIn, register, commaRegister, operand, openedImmediate, eightBits, closedByte, registerAndOperand, threeRegisters, shiftOperands, bracketed, address}
-use Rattle.parser.specs.Parse.{takes, saying, mov, arith, compare, copy, combining, arithRegReg, turning, movShift, moving, transfer, jumping, registerElse, target, callee, meaning, parse}
+use Rattle.parser.specs.Operands.{nth, hash, opening, closing, comma, starts, called, register_names, register_in, register, comma_register, operand, opened_immediate, eight_bits, closed_byte, register_and_operand, three_registers, shift_operands, bracketed, address}
+use Rattle.parser.specs.Parse.{takes, saying, mov, arith, compare, copy, combining, arith_reg_reg, turning, mov_shift, moving, transfer, jumping, register_else, target, callee, meaning, parse}
 
 -- the numbers of 01's refusals of a line, apart from those of a blank one and of an unknown label
 abbrev pub Number : ℕ → Type 0
@@ -75,14 +75,14 @@ nth-fair (suc k) reads (t ∷ ts) p = nth-fair k reads ts p
 
 register-fair : (t : List ℕ) → Fair (register t)
 unfolding register
-register-fair t = go registerNames
+register-fair t = go register_names
   where
-    go : (rs : List RegisterName) → Fair (registerIn rs t)
+    go : (rs : List RegisterName) → Fair (register_in rs t)
     go [] = 20-fair
-    go (r ∷ rs) = if-fair (called t r) (is r.register) (registerIn rs t) tt (go rs)
+    go (r ∷ rs) = if-fair (called t r) (is r.register) (register_in rs t) tt (go rs)
 
-comma-fair : (t : List ℕ) → Fair (commaRegister t)
-comma-fair t = register-fair (dropEnd (equals comma) t)
+comma-fair : (t : List ℕ) → Fair (comma_register t)
+comma-fair t = register-fair (drop_end (equals comma) t)
 
 immediate-fair : (t : List ℕ) → Fair (immediate t)
 immediate-fair t = go (immediate t) (immediate-refused t)
@@ -98,37 +98,37 @@ operand-fair t =
     (one (immediate t) (λ n. is (Imm n)) (immediate-fair t) (λ n. tt))
     (one (register t) (λ r. is (Reg r)) (register-fair t) (λ r. tt))
 
-opened-fair : (t : List ℕ) → Fair (openedImmediate t)
-opened-fair t = immediate-fair (dropFront (equals opening) t)
+opened-fair : (t : List ℕ) → Fair (opened_immediate t)
+opened-fair t = immediate-fair (drop_front (equals opening) t)
 
-closed-fair : (over : ℕ) → Number over → (t : List ℕ) → Fair (closedByte over t)
+closed-fair : (over : ℕ) → Number over → (t : List ℕ) → Fair (closed_byte over t)
 closed-fair over p t =
-    one (immediate (dropEnd (equals closing) t)) (eightBits over) (immediate-fair (dropEnd (equals closing) t))
+    one (immediate (drop_end (equals closing) t)) (eight_bits over) (immediate-fair (drop_end (equals closing) t))
     (λ n. if-fair (leb n 255) (is n) (no over) tt p)
 
-pair-fair : (line : List (List ℕ)) → Fair (registerAndOperand line)
-unfolding registerAndOperand
+pair-fair : (line : List (List ℕ)) → Fair (register_and_operand line)
+unfolding register_and_operand
 pair-fair line =
-    two (nth 1 commaRegister line) (nth 2 operand line) (λ r o. is (both r o)) (nth-fair 1 commaRegister line comma-fair) (nth-fair 2 operand line operand-fair) (λ r o. tt)
+    two (nth 1 comma_register line) (nth 2 operand line) (λ r o. is (both r o)) (nth-fair 1 comma_register line comma-fair) (nth-fair 2 operand line operand-fair) (λ r o. tt)
 
-registers-fair : (line : List (List ℕ)) → Fair (threeRegisters line)
-unfolding threeRegisters
+registers-fair : (line : List (List ℕ)) → Fair (three_registers line)
+unfolding three_registers
 registers-fair line =
-    three (nth 1 commaRegister line) (nth 2 commaRegister line) (nth 3 register line) (λ d a b. is (triple d a b))
-    (nth-fair 1 commaRegister line comma-fair) (nth-fair 2 commaRegister line comma-fair) (nth-fair 3 register line register-fair) (λ d a b. tt)
+    three (nth 1 comma_register line) (nth 2 comma_register line) (nth 3 register line) (λ d a b. is (triple d a b))
+    (nth-fair 1 comma_register line comma-fair) (nth-fair 2 comma_register line comma-fair) (nth-fair 3 register line register-fair) (λ d a b. tt)
 
-turn-fair : (line : List (List ℕ)) → Fair (shiftOperands line)
-unfolding shiftOperands
+turn-fair : (line : List (List ℕ)) → Fair (shift_operands line)
+unfolding shift_operands
 turn-fair line =
-    three (nth 1 commaRegister line) (nth 2 openedImmediate line) (nth 3 (closedByte 22) line) (λ r imm amount. is (turn r imm amount))
-    (nth-fair 1 commaRegister line comma-fair) (nth-fair 2 openedImmediate line opened-fair) (nth-fair 3 (closedByte 22) line (closed-fair 22 22-fair)) (λ r imm amount. tt)
+    three (nth 1 comma_register line) (nth 2 opened_immediate line) (nth 3 (closed_byte 22) line) (λ r imm amount. is (turn r imm amount))
+    (nth-fair 1 comma_register line comma-fair) (nth-fair 2 opened_immediate line opened-fair) (nth-fair 3 (closed_byte 22) line (closed-fair 22 22-fair)) (λ r imm amount. tt)
 
 address-fair : (line : List (List ℕ)) (t : List ℕ) → Fair (address line t)
 unfolding address bracketed
 address-fair line t =
-    let base = register (dropFront (equals opening) t) in
+    let base = register (drop_front (equals opening) t) in
     if-fair (starts opening t) (bracketed base line) (register t >>= λ r. is (at r 0))
-    (two base (nth 3 (closedByte 24) line) (λ r n. is (at r n)) (register-fair (dropFront (equals opening) t)) (nth-fair 3 (closedByte 24) line (closed-fair 24 24-fair)) (λ r n. tt))
+    (two base (nth 3 (closed_byte 24) line) (λ r n. is (at r n)) (register-fair (drop_front (equals opening) t)) (nth-fair 3 (closed_byte 24) line (closed-fair 24 24-fair)) (λ r n. tt))
     (one (register t) (λ r. is (at r 0)) (register-fair t) (λ r. tt))
 
 -- ---- each mnemonic
@@ -138,39 +138,39 @@ saying-fair f (both r o) = tt
 
 mov-fair : (line : List (List ℕ)) → Fair (mov line)
 unfolding mov
-mov-fair line = one (registerAndOperand line) (saying Mov) (pair-fair line) (saying-fair Mov)
+mov-fair line = one (register_and_operand line) (saying Mov) (pair-fair line) (saying-fair Mov)
 
 arith-fair : (op : ArithOp) (line : List (List ℕ)) → Fair (arith op line)
 unfolding arith
 arith-fair op line =
     let f : Register → Operand → Instruction = λ r o. Arith r o op in
-    one (registerAndOperand line) (saying f) (pair-fair line) (saying-fair f)
+    one (register_and_operand line) (saying f) (pair-fair line) (saying-fair f)
 
 compare-fair : (op : CompareOp) (line : List (List ℕ)) → Fair (compare op line)
 unfolding compare
 compare-fair op line =
     let f : Register → Operand → Instruction = λ r o. Cmp r o op in
-    one (registerAndOperand line) (saying f) (pair-fair line) (saying-fair f)
+    one (register_and_operand line) (saying f) (pair-fair line) (saying-fair f)
 
 copy-fair : (line : List (List ℕ)) → Fair (copy line)
 unfolding copy
 copy-fair line =
-    two (nth 1 commaRegister line) (nth 2 register line) (λ a b. is (says (Cpy a b)))
-    (nth-fair 1 commaRegister line comma-fair) (nth-fair 2 register line register-fair) (λ a b. tt)
+    two (nth 1 comma_register line) (nth 2 register line) (λ a b. is (says (Cpy a b)))
+    (nth-fair 1 comma_register line comma-fair) (nth-fair 2 register line register-fair) (λ a b. tt)
 
 combining-fair : (op : ArithmeticOp) (t : Triple) → Fair (combining op t)
 combining-fair op (triple d a b) = tt
 
-three-fair : (op : ArithmeticOp) (line : List (List ℕ)) → Fair (arithRegReg op line)
-unfolding arithRegReg
-three-fair op line = one (threeRegisters line) (combining op) (registers-fair line) (combining-fair op)
+three-fair : (op : ArithmeticOp) (line : List (List ℕ)) → Fair (arith_reg_reg op line)
+unfolding arith_reg_reg
+three-fair op line = one (three_registers line) (combining op) (registers-fair line) (combining-fair op)
 
 turning-fair : (left : Bool) (t : Turn) → Fair (turning left t)
 turning-fair left (turn r imm amount) = tt
 
-shift-fair : (left : Bool) (line : List (List ℕ)) → Fair (movShift left line)
-unfolding movShift
-shift-fair left line = one (shiftOperands line) (turning left) (turn-fair line) (turning-fair left)
+shift-fair : (left : Bool) (line : List (List ℕ)) → Fair (mov_shift left line)
+unfolding mov_shift
+shift-fair left line = one (shift_operands line) (turning left) (turn-fair line) (turning-fair left)
 
 moving-fair : (byte store : Bool) (r : Register) (p : Place) → Fair (moving byte store r p)
 moving-fair byte store r (at a n) = tt
@@ -178,10 +178,10 @@ moving-fair byte store r (at a n) = tt
 transfer-fair : (byte store : Bool) (line : List (List ℕ)) → Fair (transfer byte store line)
 unfolding transfer
 transfer-fair byte store line =
-    two (nth 1 commaRegister line) (nth 2 (address line) line) (moving byte store)
-    (nth-fair 1 commaRegister line comma-fair) (nth-fair 2 (address line) line (address-fair line)) (moving-fair byte store)
+    two (nth 1 comma_register line) (nth 2 (address line) line) (moving byte store)
+    (nth-fair 1 comma_register line comma-fair) (nth-fair 2 (address line) line (address-fair line)) (moving-fair byte store)
 
-else-fair : (conditional : Bool) (t : List ℕ) (r : Told Register) → Fair (registerElse conditional t r)
+else-fair : (conditional : Bool) (t : List ℕ) (r : Told Register) → Fair (register_else conditional t r)
 else-fair conditional t (is r) = tt
 else-fair conditional t (no n) = tt
 
@@ -189,7 +189,7 @@ target-fair : (conditional : Bool) (t : List ℕ) → Fair (target conditional t
 unfolding target
 target-fair conditional t =
     let f : ℕ → Told Meaning = λ n. is (says (jumping conditional (Imm n))) in
-    if-fair (starts hash t) (immediate t >>= f) (registerElse conditional t (register t))
+    if-fair (starts hash t) (immediate t >>= f) (register_else conditional t (register t))
     (one (immediate t) f (immediate-fair t) (λ n. tt)) (else-fair conditional t (register t))
 
 callee-fair : (t : List ℕ) → Fair (callee t)

@@ -9,8 +9,8 @@ use lib.ListN.{length, drop, get_or}
 use Rattle.base.specs.Choice.{cond}
 use Rattle.base.specs.Told.{Told, is, no, ◌>>=◌}
 use Rattle.mnemonics.specs.Mnemonics.{kind_of}
-use Rattle.text.specs.Parts.{isBlank}
-use Rattle.text.specs.Tokens.{startsWord, consHead, tokens, first, tokenAt}
+use Rattle.text.specs.Parts.{is_blank}
+use Rattle.text.specs.Tokens.{starts_word, cons_head, tokens, first, token_at}
 use Rattle.parser.specs.Answers.{Meaning}
 use Rattle.parser.specs.Operands.{nth, starts}
 use Rattle.parser.specs.Parse.{takes, meaning, parse}
@@ -22,9 +22,9 @@ Full (t ∷ ts) = (0 < length t) × Full ts
 
 full : (s : List ℕ) → Full (tokens s)
 full [] = tt
-full (x ∷ xs) = cases (isBlank x) (startsWord xs) (tokens xs) (full xs)
+full (x ∷ xs) = cases (is_blank x) (starts_word xs) (tokens xs) (full xs)
   where
-    cases : (t u : Bool) (ts : List (List ℕ)) → Full ts → Full (cond t ts (cond u (consHead x ts) ((x ∷ []) ∷ ts)))
+    cases : (t u : Bool) (ts : List (List ℕ)) → Full ts → Full (cond t ts (cond u (cons_head x ts) ((x ∷ []) ∷ ts)))
     cases true u ts f = f
     cases false true [] f = (omega arith, f)
     cases false true (y ∷ ys) f = (omega arith, f.1)
@@ -36,7 +36,7 @@ module _ {A : Type 0} (reads : List ℕ → Told A) where
   missing (t ∷ ts) zero f e = absurd (omega (arith, f.0))
   missing (t ∷ ts) (suc k) f e = missing ts k f.1 e
 
-  pub nth-missing : (s : List ℕ) (k : ℕ) → length (tokenAt s k) ≡ 0 → nth k reads (tokens s) ≡ no 21
+  pub nth-missing : (s : List ℕ) (k : ℕ) → length (token_at s k) ≡ 0 → nth k reads (tokens s) ≡ no 21
   nth-missing s k e = missing (tokens s) k (full s) e
 
   there : (ts : List (List ℕ)) (k : ℕ) → (length (first (drop k ts)) ≡ 0 → ⊥) → nth k reads ts ≡ reads (first (drop k ts))
@@ -45,7 +45,7 @@ module _ {A : Type 0} (reads : List ℕ → Told A) where
   there (t ∷ ts) zero h = refl
   there (t ∷ ts) (suc k) h = there ts k h
 
-  pub nth-there : (s : List ℕ) (k : ℕ) → (length (tokenAt s k) ≡ 0 → ⊥) → nth k reads (tokens s) ≡ reads (tokenAt s k)
+  pub nth-there : (s : List ℕ) (k : ℕ) → (length (token_at s k) ≡ 0 → ⊥) → nth k reads (tokens s) ≡ reads (token_at s k)
   nth-there s k h = there (tokens s) k h
 
 -- what comes of reads that all give a value

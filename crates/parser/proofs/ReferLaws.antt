@@ -22,8 +22,8 @@ use Rattle.text.specs.Tokens.{first}
 use Rattle.parser.specs.declared.Reference.{Reference}
 use Rattle.parser.specs.declared.Reference.TheVariants as reference
 use Rattle.parser.specs.Answers.{Meaning, says, refers, Both, both, Triple, triple, Turn, turn, Place, at}
-use Rattle.parser.specs.Operands.{nth, hash, starts, register, commaRegister, registerAndOperand, threeRegisters, shiftOperands, address}
-use Rattle.parser.specs.Parse.{takes, saying, mov, arith, compare, copy, combining, arithRegReg, turning, movShift, moving, transfer, jumping, registerElse, target, callee, meaning, parse}
+use Rattle.parser.specs.Operands.{nth, hash, starts, register, comma_register, register_and_operand, three_registers, shift_operands, address}
+use Rattle.parser.specs.Parse.{takes, saying, mov, arith, compare, copy, combining, arith_reg_reg, turning, mov_shift, moving, transfer, jumping, register_else, target, callee, meaning, parse}
 
 -- the operand that a line with one operand has
 abbrev pub second : List (List ℕ) → List ℕ
@@ -55,7 +55,7 @@ jumping-said : (conditional : Bool) (o : Operand) → sayable (jumping condition
 jumping-said true o = refl
 jumping-said false o = refl
 
-else-names : (conditional : Bool) (t : List ℕ) (r : Told Register) → Names t (registerElse conditional t r)
+else-names : (conditional : Bool) (t : List ℕ) (r : Told Register) → Names t (register_else conditional t r)
 else-names conditional t (is r) = jumping-said conditional (Reg r)
 else-names conditional t (no n) = refl
 
@@ -63,7 +63,7 @@ target-names : (conditional : Bool) (t : List ℕ) → Names t (target condition
 unfolding target
 target-names conditional t =
     let f : ℕ → Told Meaning = λ n. is (says (jumping conditional (Imm n))) in
-    if-names t (starts hash t) (immediate t >>= f) (registerElse conditional t (register t))
+    if-names t (starts hash t) (immediate t >>= f) (register_else conditional t (register t))
     (then-names t (immediate t) f (λ n. jumping-said conditional (Imm n))) (else-names conditional t (register t))
 
 callee-names : (t : List ℕ) → Names t (callee t)
@@ -90,32 +90,32 @@ module _ (name : List ℕ) where
   unfolding copy
   copy-names line =
       let f : Register → Register → Told Meaning = λ a b. is (says (Cpy a b)) in
-      then-names name (nth 1 commaRegister line) (λ a. nth 2 register line >>= f a) (λ a. then-names name (nth 2 register line) (f a) (λ b. refl))
+      then-names name (nth 1 comma_register line) (λ a. nth 2 register line >>= f a) (λ a. then-names name (nth 2 register line) (f a) (λ b. refl))
 
   transfer-names : (byte store : Bool) (line : List (List ℕ)) → Names name (transfer byte store line)
   unfolding transfer
   transfer-names byte store line =
-      then-names name (nth 1 commaRegister line) (λ r. nth 2 (address line) line >>= moving byte store r)
+      then-names name (nth 1 comma_register line) (λ r. nth 2 (address line) line >>= moving byte store r)
       (λ r. then-names name (nth 2 (address line) line) (moving byte store r) (moving-names byte store r))
 
 -- ---- the line
 
 meaning-names : (k : Kind) (line : List (List ℕ)) → Names (second line) (meaning k line)
-unfolding meaning mov arith compare arithRegReg movShift
+unfolding meaning mov arith compare arith_reg_reg mov_shift
 meaning-names kind.Unknown line = tt
 meaning-names kind.Dbg line = refl
-meaning-names kind.Mov line = then-names (second line) (registerAndOperand line) (saying Mov) (saying-names (second line) Mov (λ r o. refl))
-meaning-names (kind.MovShift left) line = then-names (second line) (shiftOperands line) (turning left) (turning-names (second line) left)
+meaning-names kind.Mov line = then-names (second line) (register_and_operand line) (saying Mov) (saying-names (second line) Mov (λ r o. refl))
+meaning-names (kind.MovShift left) line = then-names (second line) (shift_operands line) (turning left) (turning-names (second line) left)
 meaning-names kind.Copy line = copy-names (second line) line
 meaning-names (kind.Arith op) line =
     let f : Register → Operand → Instruction = λ r o. Arith r o op in
-    then-names (second line) (registerAndOperand line) (saying f) (saying-names (second line) f (λ r o. refl))
-meaning-names (kind.ArithRegReg op) line = then-names (second line) (threeRegisters line) (combining op) (combining-names (second line) op)
+    then-names (second line) (register_and_operand line) (saying f) (saying-names (second line) f (λ r o. refl))
+meaning-names (kind.ArithRegReg op) line = then-names (second line) (three_registers line) (combining op) (combining-names (second line) op)
 meaning-names (kind.Transfer byte store) line = transfer-names (second line) byte store line
 meaning-names (kind.Jump conditional) line = second-names (target conditional) line (target-names conditional)
 meaning-names (kind.Compare op) line =
     let f : Register → Operand → Instruction = λ r o. Cmp r o op in
-    then-names (second line) (registerAndOperand line) (saying f) (saying-names (second line) f (λ r o. refl))
+    then-names (second line) (register_and_operand line) (saying f) (saying-names (second line) f (λ r o. refl))
 meaning-names kind.Ret line = refl
 meaning-names kind.Call line = second-names callee line callee-names
 

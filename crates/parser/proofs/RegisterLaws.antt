@@ -9,7 +9,7 @@ use borrow.Author.Tests.{leb-true}
 use Rattle.instruction.specs.declared.Register.TheVariants.{A}
 use Rattle.mnemonics.proofs.Scans.{every-at}
 use Rattle.parser.specs.declared.names.RegisterName.{RegisterName}
-use Rattle.parser.specs.Operands.{registerNames}
+use Rattle.parser.specs.Operands.{register_names}
 
 -- what Rattle has past the end of an array, where the code never looks: no bytes, 0, and the first register
 abbrev pub no_row : RegisterName
@@ -18,10 +18,10 @@ no_row = record { name = []; length = 0; register = A }
 abbrev short : RegisterName → Bool
 short r = leb r.length 5
 
-pub at-most-five : (k : ℕ) → k < 8 → (get_or registerNames k no_row).length ≤ 5
-unfolding registerNames
-at-most-five k h = leb-true (get_or registerNames k no_row).length 5 (every-at short no_row registerNames refl k h)
+pub at-most-five : (k : ℕ) → k < 8 → (get_or register_names k no_row).length ≤ 5
+unfolding register_names
+at-most-five k h = leb-true (get_or register_names k no_row).length 5 (every-at short no_row register_names refl k h)
 
-pub eight : length registerNames ≡ 8
-unfolding registerNames
+pub eight : length register_names ≡ 8
+unfolding register_names
 eight = refl

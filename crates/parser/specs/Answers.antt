@@ -54,33 +54,33 @@ pub data Place : Type 0 where
 
 -- ---- the answers of the functions below `parse`
 
-abbrev pub toldImmediate : Immediate → Told ℕ
-toldImmediate i = text.told i
+abbrev pub told_immediate : Immediate → Told ℕ
+told_immediate i = text.told i
 
-abbrev pub toldByte : Byte → Told ℕ
-toldByte (byte.Is n) = is n
-toldByte (byte.Refused e) = no (number_of e)
+abbrev pub told_byte : Byte → Told ℕ
+told_byte (byte.Is n) = is n
+told_byte (byte.Refused e) = no (number_of e)
 
-abbrev pub toldRegister : Named → Told Register
-toldRegister (name.Is r) = is r
-toldRegister (name.Refused e) = no (number_of e)
+abbrev pub told_register : Named → Told Register
+told_register (name.Is r) = is r
+told_register (name.Refused e) = no (number_of e)
 
-abbrev pub toldOperand : Value → Told Operand
-toldOperand (value.Is o) = is o
-toldOperand (value.Refused e) = no (number_of e)
+abbrev pub told_operand : Value → Told Operand
+told_operand (value.Is o) = is o
+told_operand (value.Refused e) = no (number_of e)
 
-abbrev pub toldPair : Pair → Told Both
-toldPair (pair.Are r o) = is (both r o)
-toldPair (pair.Refused e) = no (number_of e)
+abbrev pub told_pair : Pair → Told Both
+told_pair (pair.Are r o) = is (both r o)
+told_pair (pair.Refused e) = no (number_of e)
 
-abbrev pub toldThree : Three → Told Triple
-toldThree (three.Are d a b) = is (triple d a b)
-toldThree (three.Refused e) = no (number_of e)
+abbrev pub told_three : Three → Told Triple
+told_three (three.Are d a b) = is (triple d a b)
+told_three (three.Refused e) = no (number_of e)
 
-abbrev pub toldShift : Shift → Told Turn
-toldShift (shift.By r imm amount) = is (turn r imm amount)
-toldShift (shift.Refused e) = no (number_of e)
+abbrev pub told_shift : Shift → Told Turn
+told_shift (shift.By r imm amount) = is (turn r imm amount)
+told_shift (shift.Refused e) = no (number_of e)
 
-abbrev pub toldAddress : Address → Told Place
-toldAddress (address.At r n) = is (at r n)
-toldAddress (address.Refused e) = no (number_of e)
+abbrev pub told_address : Address → Told Place
+told_address (address.At r n) = is (at r n)
+told_address (address.Refused e) = no (number_of e)

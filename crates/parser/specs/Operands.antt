@@ -7,9 +7,9 @@ use Rattle.instruction.specs.declared.Operand.{Operand}
 use Rattle.instruction.specs.declared.Operand.TheVariants.{Reg, Imm}
 use Rattle.instruction.specs.declared.Register.{Register}
 use Rattle.instruction.specs.declared.Register.TheVariants.{A, B, C, M, SP, PC, BP, FLAGS}
-use Rattle.mnemonics.specs.Tables.{padded, firstRow}
+use Rattle.mnemonics.specs.Tables.{padded, first_row}
 use Rattle.text.specs.Immediates.{immediate}
-use Rattle.text.specs.Parts.{equals, dropFront, dropEnd}
+use Rattle.text.specs.Parts.{equals, drop_front, drop_end}
 use Rattle.parser.specs.declared.names.RegisterName.{RegisterName}
 use Rattle.parser.specs.Answers.{Both, both, Triple, triple, Turn, turn, Place, at}
 
@@ -54,8 +54,8 @@ starts b (x ∷ xs) = eqb x b
 abbrev pub row : List ℕ → Register → RegisterName
 row name r = record { name = padded name; length = length name; register = r }
 
-unfoldable pub registerNames : List RegisterName
-registerNames =
+unfoldable pub register_names : List RegisterName
+register_names =
     row (bytes "A") A
     ∷ row (bytes "B") B
     ∷ row (bytes "C") C
@@ -70,68 +70,68 @@ registerNames =
 abbrev pub called : List ℕ → RegisterName → Bool
 called t r = same t (take r.length r.name)
 
-abbrev pub registerIn : List RegisterName → List ℕ → Told Register
-registerIn rs t = firstRow (called t) (λ (r : RegisterName). is r.register) (no 20) rs
+abbrev pub register_in : List RegisterName → List ℕ → Told Register
+register_in rs t = first_row (called t) (λ (r : RegisterName). is r.register) (no 20) rs
 
 -- registers are exact, else 20
 unfoldable pub register : List ℕ → Told Register
-register t = registerIn registerNames t
+register t = register_in register_names t
 
 -- a register, its final commas dropped
-abbrev pub commaRegister : List ℕ → Told Register
-commaRegister t = register (dropEnd (equals comma) t)
+abbrev pub comma_register : List ℕ → Told Register
+comma_register t = register (drop_end (equals comma) t)
 
 -- an immediate where it starts with `#`, else a register
 unfoldable pub operand : List ℕ → Told Operand
 operand t = cond (starts hash t) (immediate t >>= λ n. is (Imm n)) (register t >>= λ r. is (Reg r))
 
 -- an immediate, all leading `[` dropped
-abbrev pub openedImmediate : List ℕ → Told ℕ
-openedImmediate t = immediate (dropFront (equals opening) t)
+abbrev pub opened_immediate : List ℕ → Told ℕ
+opened_immediate t = immediate (drop_front (equals opening) t)
 
 -- at most 255, else this number
-abbrev pub eightBits : ℕ → ℕ → Told ℕ
-eightBits over n = cond (leb n 255) (is n) (no over)
+abbrev pub eight_bits : ℕ → ℕ → Told ℕ
+eight_bits over n = cond (leb n 255) (is n) (no over)
 
 -- an immediate of eight bits, all final `]` dropped
-abbrev pub closedByte : ℕ → List ℕ → Told ℕ
-closedByte over t = immediate (dropEnd (equals closing) t) >>= eightBits over
+abbrev pub closed_byte : ℕ → List ℕ → Told ℕ
+closed_byte over t = immediate (drop_end (equals closing) t) >>= eight_bits over
 
 -- ---- operands that belong together
 
 -- the first operand a register, the second a register or an immediate
-unfoldable pub registerAndOperand : List (List ℕ) → Told Both
-registerAndOperand line = do
-  r ← first commaRegister line
+unfoldable pub register_and_operand : List (List ℕ) → Told Both
+register_and_operand line = do
+  r ← first comma_register line
   o ← second operand line
   is (both r o)
 
 -- three registers
-unfoldable pub threeRegisters : List (List ℕ) → Told Triple
-threeRegisters line = do
-  d ← first commaRegister line
-  a ← second commaRegister line
+unfoldable pub three_registers : List (List ℕ) → Told Triple
+three_registers line = do
+  d ← first comma_register line
+  a ← second comma_register line
   b ← third register line
   is (triple d a b)
 
 -- the immediate and then the amount, which is 22 over 255: MSL A, [#imm #amount]
-unfoldable pub shiftOperands : List (List ℕ) → Told Turn
-shiftOperands line = do
-  r ← first commaRegister line
-  imm ← second openedImmediate line
-  amount ← third (closedByte 22) line
+unfoldable pub shift_operands : List (List ℕ) → Told Turn
+shift_operands line = do
+  r ← first comma_register line
+  imm ← second opened_immediate line
+  amount ← third (closed_byte 22) line
   is (turn r imm amount)
 
 -- this register with the third operand as its shift, which is 24 over 255
 unfoldable pub bracketed : Told Register → List (List ℕ) → Told Place
 bracketed base line = do
   r ← base
-  n ← third (closedByte 24) line
+  n ← third (closed_byte 24) line
   is (at r n)
 
 -- an address: after `[` the register and then the shift; without, a register alone, and no third operand is looked at
 unfoldable pub address : List (List ℕ) → List ℕ → Told Place
 address line t =
     cond (starts opening t)
-    (bracketed (register (dropFront (equals opening) t)) line)
+    (bracketed (register (drop_front (equals opening) t)) line)
     (register t >>= λ r. is (at r 0))

@@ -17,7 +17,7 @@ use Rattle.text.specs.Immediates.{immediate}
 use Rattle.parser.specs.declared.Reference.{Reference}
 use Rattle.parser.specs.declared.Reference.TheVariants as reference
 use Rattle.parser.specs.Answers.{Meaning, says, refers, Both, both, Triple, triple, Turn, turn, Place, at}
-use Rattle.parser.specs.Operands.{first, second, hash, starts, register, commaRegister, registerAndOperand, threeRegisters, shiftOperands, address}
+use Rattle.parser.specs.Operands.{first, second, hash, starts, register, comma_register, register_and_operand, three_registers, shift_operands, address}
 
 -- ---- how many operands: MOV, CPY, compares 2; MSL, MSR, three-register forms 3; JMP, CJP, CALL 1; ADD to DIV at most 2,
 -- LDR to STB at most 3; RET and DBG ignore them
@@ -43,32 +43,32 @@ abbrev pub saying : (Register → Operand → Instruction) → Both → Told Mea
 saying f (both r o) = is (says (f r o))
 
 unfoldable pub mov : List (List ℕ) → Told Meaning
-mov line = registerAndOperand line >>= saying Mov
+mov line = register_and_operand line >>= saying Mov
 
 unfoldable pub arith : ArithOp → List (List ℕ) → Told Meaning
-arith op line = registerAndOperand line >>= saying (λ r o. Arith r o op)
+arith op line = register_and_operand line >>= saying (λ r o. Arith r o op)
 
 unfoldable pub compare : CompareOp → List (List ℕ) → Told Meaning
-compare op line = registerAndOperand line >>= saying (λ r o. Cmp r o op)
+compare op line = register_and_operand line >>= saying (λ r o. Cmp r o op)
 
 unfoldable pub copy : List (List ℕ) → Told Meaning
 copy line = do
-  from ← first commaRegister line
+  from ← first comma_register line
   to ← second register line
   is (says (Cpy from to))
 
 abbrev pub combining : ArithmeticOp → Triple → Told Meaning
 combining op (triple d a b) = is (says (ArithRegReg d a b op))
 
-unfoldable pub arithRegReg : ArithmeticOp → List (List ℕ) → Told Meaning
-arithRegReg op line = threeRegisters line >>= combining op
+unfoldable pub arith_reg_reg : ArithmeticOp → List (List ℕ) → Told Meaning
+arith_reg_reg op line = three_registers line >>= combining op
 
 -- left, else right
 abbrev pub turning : Bool → Turn → Told Meaning
 turning left (turn r imm amount) = is (says (MovShift r amount left imm))
 
-unfoldable pub movShift : Bool → List (List ℕ) → Told Meaning
-movShift left line = shiftOperands line >>= turning left
+unfoldable pub mov_shift : Bool → List (List ℕ) → Told Meaning
+mov_shift left line = shift_operands line >>= turning left
 
 -- a byte, else a word
 abbrev pub transferred : Bool → Register → Register → Bool → ℕ → Instruction
@@ -80,7 +80,7 @@ moving byte store r (at a shift) = is (says (transferred byte r a store shift))
 
 unfoldable pub transfer : Bool → Bool → List (List ℕ) → Told Meaning
 transfer byte store line = do
-  r ← first commaRegister line
+  r ← first comma_register line
   a ← second (address line) line
   moving byte store r a
 
@@ -94,14 +94,14 @@ waiting true = reference.CondJmp
 waiting false = reference.Jmp
 
 -- a register, else the label of this name
-abbrev pub registerElse : Bool → List ℕ → Told Register → Told Meaning
-registerElse conditional t (is r) = is (says (jumping conditional (Reg r)))
-registerElse conditional t (no n) = is (refers (waiting conditional) t)
+abbrev pub register_else : Bool → List ℕ → Told Register → Told Meaning
+register_else conditional t (is r) = is (says (jumping conditional (Reg r)))
+register_else conditional t (no n) = is (refers (waiting conditional) t)
 
 -- `#`, register, label
 unfoldable pub target : Bool → List ℕ → Told Meaning
 target conditional t =
-    cond (starts hash t) (immediate t >>= λ n. is (says (jumping conditional (Imm n)))) (registerElse conditional t (register t))
+    cond (starts hash t) (immediate t >>= λ n. is (says (jumping conditional (Imm n)))) (register_else conditional t (register t))
 
 -- `#`, label
 unfoldable pub callee : List ℕ → Told Meaning
@@ -113,10 +113,10 @@ unfoldable pub meaning : Kind → List (List ℕ) → Told Meaning
 meaning kind.Unknown line = no 22
 meaning kind.Dbg line = is (says Noop)
 meaning kind.Mov line = mov line
-meaning (kind.MovShift left) line = movShift left line
+meaning (kind.MovShift left) line = mov_shift left line
 meaning kind.Copy line = copy line
 meaning (kind.Arith op) line = arith op line
-meaning (kind.ArithRegReg op) line = arithRegReg op line
+meaning (kind.ArithRegReg op) line = arith_reg_reg op line
 meaning (kind.Transfer byte store) line = transfer byte store line
 meaning (kind.Jump conditional) line = first (target conditional) line
 meaning (kind.Compare op) line = compare op line

@@ -2,8 +2,8 @@
 ghost use Rattle.std.specs.Prelude.{◌≡◌};
 ghost use Rattle.base.specs.Numbers.{number_of};
 ghost use Rattle.text.specs.Tokens.{tokens};
-ghost use Rattle.parser.specs.Answers.{toldRegister, toldImmediate, toldByte, toldShift, toldAddress};
-ghost use Rattle.parser.specs.Operands.{nth, openedImmediate, eightBits, closedByte, shiftOperands, bracketed, address};
+ghost use Rattle.parser.specs.Answers.{told_register, told_immediate, told_byte, told_shift, told_address};
+ghost use Rattle.parser.specs.Operands.{nth, opened_immediate, eight_bits, closed_byte, shift_operands, bracketed, address};
 
 use crate::operands::starts;
 use crate::registers::{Named, comma_register_at, register};
@@ -34,7 +34,7 @@ pub enum Address {
 
 // Operand 2 without its leading `[`: an immediate.
 fn opened_immediate(line: &[u8]) -> Immediate
-    ensures { toldImmediate result ≡ nth 2 openedImmediate (tokens line.now) }
+    ensures { told_immediate result ≡ nth 2 opened_immediate (tokens line.now) }
 {
     let t = text::token(line, 2);
     if t.len() == 0 {
@@ -45,7 +45,7 @@ fn opened_immediate(line: &[u8]) -> Immediate
 
 // A number of at most 255, or else this refusal.
 fn eight_bits(n: u16, over: Refusal) -> Byte
-    ensures { toldByte result ≡ eightBits (number_of over) n }
+    ensures { told_byte result ≡ eight_bits (number_of over) n }
 {
     if n <= 255 {
         Byte::Is(n as u8)
@@ -56,7 +56,7 @@ fn eight_bits(n: u16, over: Refusal) -> Byte
 
 // Operand 3 without its final `]`: an immediate of eight bits, `over` where it has more.
 fn closed_byte(line: &[u8], over: Refusal) -> Byte
-    ensures { toldByte result ≡ nth 3 (closedByte (number_of over)) (tokens line.now) }
+    ensures { told_byte result ≡ nth 3 (closed_byte (number_of over)) (tokens line.now) }
 {
     let t = text::token(line, 3);
     if t.len() == 0 {
@@ -71,7 +71,7 @@ fn closed_byte(line: &[u8], over: Refusal) -> Byte
 
 // The immediate stands before the amount: no other function knows their order.
 pub fn shift_operands(line: &[u8]) -> Shift
-    ensures { toldShift result ≡ shiftOperands (tokens line.now) }
+    ensures { told_shift result ≡ shift_operands (tokens line.now) }
 {
     let register = comma_register_at(line, 1);
     match register {
@@ -94,7 +94,7 @@ pub fn shift_operands(line: &[u8]) -> Shift
 
 // The address of a register and of operand 3, its shift.
 fn bracketed(line: &[u8], register: Named) -> Address
-    ensures { toldAddress result ≡ bracketed (toldRegister register) (tokens line.now) }
+    ensures { told_address result ≡ bracketed (told_register register) (tokens line.now) }
 {
     match register {
         Named::Is(base) => {
@@ -110,7 +110,7 @@ fn bracketed(line: &[u8], register: Named) -> Address
 
 // The address that operand 2 starts. Without a `[` it is all of it.
 pub fn address_at(line: &[u8]) -> Address
-    ensures { toldAddress result ≡ nth 2 (address (tokens line.now)) (tokens line.now) }
+    ensures { told_address result ≡ nth 2 (address (tokens line.now)) (tokens line.now) }
 {
     let t = text::token(line, 2);
     if t.len() == 0 {

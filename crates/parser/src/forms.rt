@@ -1,8 +1,8 @@
 // The operands of each mnemonic, by the names of the Rust's parsers. How many there may be is tested before.
 ghost use Rattle.std.specs.Prelude.{◌≡◌};
-ghost use Rattle.text.specs.Tokens.{tokens, tokenAt};
+ghost use Rattle.text.specs.Tokens.{tokens, token_at};
 ghost use Rattle.parser.specs.Answers.{told};
-ghost use Rattle.parser.specs.Parse.{mov, movShift, copy, arith, arithRegReg, compare, transfer, transferred};
+ghost use Rattle.parser.specs.Parse.{mov, mov_shift, copy, arith, arith_reg_reg, compare, transfer, transferred};
 
 use crate::Parsed;
 use crate::brackets::{Address, Shift, address_at, shift_operands};
@@ -11,7 +11,7 @@ use crate::registers::{Named, Three, comma_register_at, register_at, three_regis
 use instruction::{ArithOp, ArithmeticOp, CompareOp, Instruction, Register};
 
 pub fn parse_mov(line: &[u8]) -> Parsed
-    ensures { told result (tokenAt line.now 1) ≡ mov (tokens line.now) }
+    ensures { told result (token_at line.now 1) ≡ mov (tokens line.now) }
 {
     let p = register_and_operand(line);
     match p {
@@ -21,7 +21,7 @@ pub fn parse_mov(line: &[u8]) -> Parsed
 }
 
 pub fn parse_arithmetic(line: &[u8], op: ArithOp) -> Parsed
-    ensures { told result (tokenAt line.now 1) ≡ arith op (tokens line.now) }
+    ensures { told result (token_at line.now 1) ≡ arith op (tokens line.now) }
 {
     let p = register_and_operand(line);
     match p {
@@ -31,7 +31,7 @@ pub fn parse_arithmetic(line: &[u8], op: ArithOp) -> Parsed
 }
 
 pub fn parse_comparision(line: &[u8], op: CompareOp) -> Parsed
-    ensures { told result (tokenAt line.now 1) ≡ compare op (tokens line.now) }
+    ensures { told result (token_at line.now 1) ≡ compare op (tokens line.now) }
 {
     let p = register_and_operand(line);
     match p {
@@ -41,7 +41,7 @@ pub fn parse_comparision(line: &[u8], op: CompareOp) -> Parsed
 }
 
 pub fn parse_copy(line: &[u8]) -> Parsed
-    ensures { told result (tokenAt line.now 1) ≡ copy (tokens line.now) }
+    ensures { told result (token_at line.now 1) ≡ copy (tokens line.now) }
 {
     let source = comma_register_at(line, 1);
     match source {
@@ -57,7 +57,7 @@ pub fn parse_copy(line: &[u8]) -> Parsed
 }
 
 pub fn parse_arithmetic_reg_reg(line: &[u8], op: ArithmeticOp) -> Parsed
-    ensures { told result (tokenAt line.now 1) ≡ arithRegReg op (tokens line.now) }
+    ensures { told result (token_at line.now 1) ≡ arith_reg_reg op (tokens line.now) }
 {
     let t = three_registers(line);
     match t {
@@ -67,7 +67,7 @@ pub fn parse_arithmetic_reg_reg(line: &[u8], op: ArithmeticOp) -> Parsed
 }
 
 pub fn parse_mov_shift(line: &[u8], left: bool) -> Parsed
-    ensures { told result (tokenAt line.now 1) ≡ movShift left (tokens line.now) }
+    ensures { told result (token_at line.now 1) ≡ mov_shift left (tokens line.now) }
 {
     let s = shift_operands(line);
     match s {
@@ -87,7 +87,7 @@ fn transferred(byte: bool, r: Register, base: Register, store: bool, shift: u8) 
 }
 
 pub fn parse_ldr_str(line: &[u8], byte: bool, store: bool) -> Parsed
-    ensures { told result (tokenAt line.now 1) ≡ transfer byte store (tokens line.now) }
+    ensures { told result (token_at line.now 1) ≡ transfer byte store (tokens line.now) }
 {
     let register = comma_register_at(line, 1);
     match register {

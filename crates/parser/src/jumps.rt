@@ -1,6 +1,6 @@
 // JMP, CJP and CALL: an address, or a reference to the label of the operand's name, which is the operand as it stands.
 ghost use Rattle.std.specs.Prelude.{◌≡◌};
-ghost use Rattle.text.specs.Tokens.{tokens, tokenAt};
+ghost use Rattle.text.specs.Tokens.{tokens, token_at};
 ghost use Rattle.parser.specs.Answers.{told};
 ghost use Rattle.parser.specs.Operands.{nth};
 ghost use Rattle.parser.specs.Parse.{jumping, waiting, target, callee};
@@ -33,7 +33,7 @@ fn waiting(conditional: bool) -> Reference
 }
 
 pub fn parse_jmp(line: &[u8], conditional: bool) -> Parsed
-    ensures { told result (tokenAt line.now 1) ≡ nth 1 (target conditional) (tokens line.now) }
+    ensures { told result (token_at line.now 1) ≡ nth 1 (target conditional) (tokens line.now) }
 {
     let t = text::token(line, 1);
     if t.len() == 0 {
@@ -54,7 +54,7 @@ pub fn parse_jmp(line: &[u8], conditional: bool) -> Parsed
 }
 
 pub fn parse_call(line: &[u8]) -> Parsed
-    ensures { told result (tokenAt line.now 1) ≡ nth 1 callee (tokens line.now) }
+    ensures { told result (token_at line.now 1) ≡ nth 1 callee (tokens line.now) }
 {
     let t = text::token(line, 1);
     if t.len() == 0 {

@@ -1,6 +1,6 @@
 // A whole line: its mnemonic, the number of its operands, and what they say.
 ghost use Rattle.std.specs.Prelude.{◌≡◌};
-ghost use Rattle.text.specs.Tokens.{tokens, tokenAt};
+ghost use Rattle.text.specs.Tokens.{tokens, token_at};
 ghost use Rattle.parser.specs.Answers.{told};
 ghost use Rattle.parser.specs.Parse.{takes, meaning, parse};
 
@@ -36,7 +36,7 @@ fn takes(kind: Kind, count: usize) -> bool
 
 // What a line of this kind says, its operands counted.
 fn parse_kind(kind: Kind, line: &[u8]) -> Parsed
-    ensures { told result (tokenAt line.now 1) ≡ meaning kind (tokens line.now) }
+    ensures { told result (token_at line.now 1) ≡ meaning kind (tokens line.now) }
 {
     match kind {
         Kind::Unknown => Parsed::Refused(Refusal::InvalidInstruction),
@@ -55,7 +55,7 @@ fn parse_kind(kind: Kind, line: &[u8]) -> Parsed
 }
 
 pub fn parse(line: &[u8]) -> Parsed
-    ensures { told result (tokenAt line.now 1) ≡ parse (tokens line.now) }
+    ensures { told result (token_at line.now 1) ≡ parse (tokens line.now) }
 {
     let count = text::count_tokens(line);
     if count == 0 {

@@ -1,6 +1,6 @@
 // The one constant table of the registers' names.
 ghost use Rattle.std.specs.Prelude.{◌≡◌};
-ghost use Rattle.parser.specs.Operands.{registerNames};
+ghost use Rattle.parser.specs.Operands.{register_names};
 
 use instruction::Register;
 
@@ -57,7 +57,7 @@ const REGISTERS: [RegisterName; 8] = [
 
 // A constant is made anew wherever it is named: so `register` asks for it once, before its loop.
 pub fn register_names() -> [RegisterName; 8]
-    ensures { result ≡ registerNames }
+    ensures { result ≡ register_names }
 {
     REGISTERS
 }

@@ -1,8 +1,8 @@
 // Operands that may be a register or an immediate.
 ghost use Rattle.std.specs.Prelude.{◌≡◌};
 ghost use Rattle.text.specs.Tokens.{tokens};
-ghost use Rattle.parser.specs.Answers.{toldOperand, toldPair};
-ghost use Rattle.parser.specs.Operands.{nth, starts, operand, registerAndOperand};
+ghost use Rattle.parser.specs.Answers.{told_operand, told_pair};
+ghost use Rattle.parser.specs.Operands.{nth, starts, operand, register_and_operand};
 
 use crate::registers::{Named, comma_register_at, register};
 use base::Refusal;
@@ -35,7 +35,7 @@ pub fn starts(s: &[u8], b: u8) -> bool
 
 // An immediate where it starts with `#`, else a register.
 fn operand(token: &[u8]) -> Value
-    ensures { toldOperand result ≡ operand token.now }
+    ensures { told_operand result ≡ operand token.now }
 {
     if starts(token, b'#') {
         let v = text::parse_immediate(token);
@@ -53,7 +53,7 @@ fn operand(token: &[u8]) -> Value
 
 // Operand k as it stands: a register or an immediate.
 fn operand_at(line: &[u8], k: usize) -> Value
-    ensures { toldOperand result ≡ nth k operand (tokens line.now) }
+    ensures { told_operand result ≡ nth k operand (tokens line.now) }
 {
     let t = text::token(line, k);
     if t.len() == 0 {
@@ -64,7 +64,7 @@ fn operand_at(line: &[u8], k: usize) -> Value
 
 // The first operand, a register, and the second, a register or an immediate.
 pub fn register_and_operand(line: &[u8]) -> Pair
-    ensures { toldPair result ≡ registerAndOperand (tokens line.now) }
+    ensures { told_pair result ≡ register_and_operand (tokens line.now) }
 {
     let d = comma_register_at(line, 1);
     match d {

@@ -1,8 +1,8 @@
 // Registers by name, and operands that are registers. The mnemonic is token 0 of a line, so operand k is token k.
 ghost use Rattle.std.specs.Prelude.{◌≡◌, ◌≤◌};
 ghost use Rattle.text.specs.Tokens.{tokens};
-ghost use Rattle.parser.specs.Answers.{toldRegister, toldThree};
-ghost use Rattle.parser.specs.Operands.{nth, called, register, commaRegister, threeRegisters};
+ghost use Rattle.parser.specs.Answers.{told_register, told_three};
+ghost use Rattle.parser.specs.Operands.{nth, called, register, comma_register, three_registers};
 
 use crate::names::{RegisterName, register_names};
 use base::Refusal;
@@ -34,7 +34,7 @@ fn is_called(token: &[u8], row: RegisterName) -> bool
 
 // The register of this name, exactly.
 pub fn register(token: &[u8]) -> Named
-    ensures { toldRegister result ≡ register token.now }
+    ensures { told_register result ≡ register token.now }
 {
     let t = register_names();
     let mut i = 0;
@@ -51,7 +51,7 @@ pub fn register(token: &[u8]) -> Named
 
 // Operand k as it stands: a register.
 pub fn register_at(line: &[u8], k: usize) -> Named
-    ensures { toldRegister result ≡ nth k register (tokens line.now) }
+    ensures { told_register result ≡ nth k register (tokens line.now) }
 {
     let t = text::token(line, k);
     if t.len() == 0 {
@@ -62,7 +62,7 @@ pub fn register_at(line: &[u8], k: usize) -> Named
 
 // Operand k without its final commas: a register.
 pub fn comma_register_at(line: &[u8], k: usize) -> Named
-    ensures { toldRegister result ≡ nth k commaRegister (tokens line.now) }
+    ensures { told_register result ≡ nth k comma_register (tokens line.now) }
 {
     let t = text::token(line, k);
     if t.len() == 0 {
@@ -73,7 +73,7 @@ pub fn comma_register_at(line: &[u8], k: usize) -> Named
 
 // All three operands are registers.
 pub fn three_registers(line: &[u8]) -> Three
-    ensures { toldThree result ≡ threeRegisters (tokens line.now) }
+    ensures { told_three result ≡ three_registers (tokens line.now) }
 {
     let destination = comma_register_at(line, 1);
     match destination {

@@ -12,7 +12,7 @@ use Rattle.base.specs.Choice.{cond}
 use Rattle.printer.specs.Text.{digit}
 use Rattle.printer.proofs.AsciiLaws.{ascii, digits-ascii}
 use Rattle.printer.proofs.DecimalLaws.{digits-one, digits_more, digits-length}
-use Rattle.pen.specs.Numbers.{hexDigit, hex, decimal}
+use Rattle.pen.specs.Numbers.{hex_digit, hex, decimal}
 
 pub decimal-one : (n : ℕ) → n < 10 → decimal n ≡ digit n ∷ []
 unfolding decimal
@@ -24,7 +24,7 @@ decimal-more n g h = digits_more 18 n g (omega arith)
 
 -- ---- a number is told by its hex digits
 
-digit-one : (d e : ℕ) → d < 16 → e < 16 → hexDigit d ≡ hexDigit e → d ≡ e
+digit-one : (d e : ℕ) → d < 16 → e < 16 → hex_digit d ≡ hex_digit e → d ≡ e
 digit-one d e h k q = go (ltb d 10) (ltb e 10) refl refl q
   where
     go : (t u : Bool) → ltb d 10 ≡ t → ltb e 10 ≡ u → cond t (48 + d) (55 + d) ≡ cond u (48 + e) (55 + e) → d ≡ e
@@ -79,7 +79,7 @@ decimal-length n = digits-length 20 n
 
 -- ---- bytes below 128
 
-digit-ascii : (n : ℕ) → ltb (hexDigit (n % 16)) 128 ≡ true
+digit-ascii : (n : ℕ) → ltb (hex_digit (n % 16)) 128 ≡ true
 digit-ascii n = go (ltb (n % 16) 10)
   where
     go : (t : Bool) → ltb (cond t (48 + n % 16) (55 + n % 16)) 128 ≡ true

@@ -4,12 +4,12 @@ use Rattle.base.specs.Choice.{cond}
 use Rattle.printer.specs.Text.{digits}
 
 -- 0 to 9, then A to F
-abbrev pub hexDigit : ℕ → ℕ
-hexDigit d = cond (ltb d 10) (48 + d) (55 + d)
+abbrev pub hex_digit : ℕ → ℕ
+hex_digit d = cond (ltb d 10) (48 + d) (55 + d)
 
 -- the last four digits to base sixteen
 unfoldable pub hex : ℕ → List ℕ
-hex n = hexDigit (n / 4096 % 16) ∷ hexDigit (n / 256 % 16) ∷ hexDigit (n / 16 % 16) ∷ hexDigit (n % 16) ∷ []
+hex n = hex_digit (n / 4096 % 16) ∷ hex_digit (n / 256 % 16) ∷ hex_digit (n / 16 % 16) ∷ hex_digit (n % 16) ∷ []
 
 -- a number of 64 bits has at most twenty digits
 unfoldable pub decimal : ℕ → List ℕ

@@ -1,13 +1,13 @@
 // Numbers in decimal, and in four upper-case hex digits.
 ghost use Rattle.std.specs.Prelude.{◌≡◌, ◌%◌};
-ghost use Rattle.pen.specs.Numbers.{hexDigit, hex, decimal};
+ghost use Rattle.pen.specs.Numbers.{hex_digit, hex, decimal};
 ghost use Rattle.pen.specs.Pen.{pen, wrote};
 
 use crate::writing::{put, put_all};
 
 // The last digit.
 fn hex_digit(n: u32) -> u8
-    ensures { result ≡ hexDigit (n % 16) }
+    ensures { result ≡ hex_digit (n % 16) }
 {
     let d = (n % 16) as u8;
     if d < 10 { 48 + d } else { 55 + d }

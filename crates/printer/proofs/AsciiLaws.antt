@@ -21,7 +21,7 @@ use Rattle.instruction.specs.declared.CompareOp.{CompareOp}
 use Rattle.instruction.specs.declared.CompareOp.TheVariants.{Eq, NotEq, Less, LessEq, Greater, GreaterEq}
 use Rattle.instruction.specs.declared.Instruction.{Instruction}
 use Rattle.instruction.specs.declared.Instruction.TheVariants.{Noop, Mov, MovShift, Arith, ArithRegReg, LdrStr, LdbStb, Cpy, Jmp, CondJmp, Cmp, CallRet}
-use Rattle.printer.specs.Text.{bytes, digit, digits, decimalOf, immediate_of, registerName, arithName, arithmeticName, compareName, shiftName, wordName, byteName, operandOf, one, pair, three, bracketed, shifted, address_of, addressed, callText, turned, textIn}
+use Rattle.printer.specs.Text.{bytes, digit, digits, decimal_of, immediate_of, register_name, arith_name, arithmetic_name, compare_name, shift_name, word_name, byte_name, operand_of, one, pair, three, bracketed, shifted, address_of, addressed, call_text, turned, text_in}
 
 unfoldable pub ascii : List ℕ → Bool
 ascii [] = true
@@ -49,11 +49,11 @@ digits-ascii (suc k) n = go (ltb n 10) (λ e. let h : 48 + n < 128 = omega (arit
     go false f h e = rw (ascii_append, h, last)
 
 immediate-ascii : (n : ℕ) → ascii (immediate_of n) ≡ true
-unfolding immediate_of decimalOf ascii
+unfolding immediate_of decimal_of ascii
 immediate-ascii n = digits-ascii 5 n
 
-register-ascii : (r : Register) → ascii (registerName r) ≡ true
-unfolding registerName ascii
+register-ascii : (r : Register) → ascii (register_name r) ≡ true
+unfolding register_name ascii
 register-ascii A = refl
 register-ascii B = refl
 register-ascii C = refl
@@ -63,15 +63,15 @@ register-ascii PC = refl
 register-ascii BP = refl
 register-ascii FLAGS = refl
 
-arith-ascii : (op : ArithOp) → ascii (arithName op) ≡ true
-unfolding arithName ascii
+arith-ascii : (op : ArithOp) → ascii (arith_name op) ≡ true
+unfolding arith_name ascii
 arith-ascii four.Add = refl
 arith-ascii four.Sub = refl
 arith-ascii four.Mul = refl
 arith-ascii four.Div = refl
 
-arithmetic-ascii : (op : ArithmeticOp) → ascii (arithmeticName op) ≡ true
-unfolding arithmeticName ascii
+arithmetic-ascii : (op : ArithmeticOp) → ascii (arithmetic_name op) ≡ true
+unfolding arithmetic_name ascii
 arithmetic-ascii seven.Add = refl
 arithmetic-ascii seven.Sub = refl
 arithmetic-ascii seven.Mul = refl
@@ -80,8 +80,8 @@ arithmetic-ascii seven.Mod = refl
 arithmetic-ascii seven.Exp = refl
 arithmetic-ascii seven.Sqrt = refl
 
-compare-ascii : (op : CompareOp) → ascii (compareName op) ≡ true
-unfolding compareName ascii
+compare-ascii : (op : CompareOp) → ascii (compare_name op) ≡ true
+unfolding compare_name ascii
 compare-ascii Eq = refl
 compare-ascii NotEq = refl
 compare-ascii Less = refl
@@ -89,23 +89,23 @@ compare-ascii LessEq = refl
 compare-ascii Greater = refl
 compare-ascii GreaterEq = refl
 
-shift-ascii : (left : Bool) → ascii (shiftName left) ≡ true
-unfolding shiftName ascii
+shift-ascii : (left : Bool) → ascii (shift_name left) ≡ true
+unfolding shift_name ascii
 shift-ascii true = refl
 shift-ascii false = refl
 
-word-ascii : (store : Bool) → ascii (wordName store) ≡ true
-unfolding wordName ascii
+word-ascii : (store : Bool) → ascii (word_name store) ≡ true
+unfolding word_name ascii
 word-ascii true = refl
 word-ascii false = refl
 
-byte-ascii : (store : Bool) → ascii (byteName store) ≡ true
-unfolding byteName ascii
+byte-ascii : (store : Bool) → ascii (byte_name store) ≡ true
+unfolding byte_name ascii
 byte-ascii true = refl
 byte-ascii false = refl
 
-operand-ascii : (o : Operand) → ascii (operandOf o) ≡ true
-unfolding operandOf
+operand-ascii : (o : Operand) → ascii (operand_of o) ≡ true
+unfolding operand_of
 operand-ascii (Reg r) = register-ascii r
 operand-ascii (Imm n) = immediate-ascii n
 
@@ -133,7 +133,7 @@ address-ascii : (a : Register) (shift : ℕ) → ascii (address_of a shift) ≡ 
 unfolding address_of ascii
 address-ascii a shift = go (eqb shift 0)
   where
-    go : (t : Bool) → ascii (cond t (registerName a) (bytes "[" ++ registerName a ++ bytes " " ++ immediate_of shift ++ bytes "]")) ≡ true
+    go : (t : Bool) → ascii (cond t (register_name a) (bytes "[" ++ register_name a ++ bytes " " ++ immediate_of shift ++ bytes "]")) ≡ true
     go true = register-ascii a
     go false = simp (ascii_append, register-ascii, immediate-ascii)
 
@@ -141,8 +141,8 @@ addressed-ascii : (r a : Register) (shift : ℕ) → ascii (addressed r a shift)
 unfolding addressed ascii
 addressed-ascii r a shift = simp (ascii_append, register-ascii, address-ascii)
 
-call-ascii : (ret : Bool) (a : ℕ) → ascii (callText ret a) ≡ true
-unfolding callText ascii
+call-ascii : (ret : Bool) (a : ℕ) → ascii (call_text ret a) ≡ true
+unfolding call_text ascii
 call-ascii true a = refl
 call-ascii false a = one-ascii (Imm a)
 
@@ -151,8 +151,8 @@ unfolding turned
 turned-ascii First r amount imm = shifted-ascii r amount imm
 turned-ascii Second r amount imm = shifted-ascii r imm amount
 
-pub text-ascii : (e : Edition) (i : Instruction) → ascii (textIn e i) ≡ true
-unfolding textIn ascii
+pub text-ascii : (e : Edition) (i : Instruction) → ascii (text_in e i) ≡ true
+unfolding text_in ascii
 text-ascii e Noop = refl
 text-ascii e (Mov d o) = pair-ascii d o
 text-ascii e (MovShift r amount left imm) = rw (ascii_append, shift-ascii, turned-ascii)

@@ -9,14 +9,14 @@ use borrow.Author.Tests.{lt-ltb, le-ltb}
 use lib.Dec.{ltb}
 use lib.ListN.{length, length-append}
 use Rattle.base.specs.Choice.{cond}
-use Rattle.printer.specs.Text.{digit, digits, decimalOf}
+use Rattle.printer.specs.Text.{digit, digits, decimal_of}
 
 pub digits-one : (k n : ℕ) → n < 10 → digits (suc k) n ≡ digit n ∷ []
 unfolding digits
 digits-one k n h = rw (lt-ltb n 10 h)
 
-pub decimal-one : (n : ℕ) → n < 10 → decimalOf n ≡ digit n ∷ []
-unfolding decimalOf
+pub decimal-one : (n : ℕ) → n < 10 → decimal_of n ≡ digit n ∷ []
+unfolding decimal_of
 decimal-one n h = digits-one 4 n h
 
 fewer : (k n : ℕ) → n < 10 ^ suc (suc k) → n / 10 < 10 ^ suc k
@@ -34,8 +34,8 @@ tens k n h = rw (le-ltb n 10 h)
 pub digits_more : (k n : ℕ) → 10 ≤ n → n < 10 ^ suc (suc k) → digits (suc (suc k)) n ≡ digits (suc (suc k)) (n / 10) ++ (digit (n % 10) ∷ [])
 digits_more k n g h = tens (suc k) n g ∙ rw (steady k (n / 10) (fewer k n h))
 
-pub decimal-more : (n : ℕ) → 10 ≤ n → n < 65536 → decimalOf n ≡ decimalOf (n / 10) ++ (digit (n % 10) ∷ [])
-unfolding decimalOf
+pub decimal-more : (n : ℕ) → 10 ≤ n → n < 65536 → decimal_of n ≡ decimal_of (n / 10) ++ (digit (n % 10) ∷ [])
+unfolding decimal_of
 decimal-more n g h = digits_more 3 n g (omega arith)
 
 pub digits-length : (k n : ℕ) → length (digits k n) ≤ k
@@ -70,6 +70,6 @@ digits_value (suc k) n h = go (ltb n 10) refl (digits_value k (n / 10) (fewer k 
     go true e i = omega arith
     go false e i = value-last 0 (digits (suc k) (n / 10)) (digit (n % 10)) ∙ rw i (omega arith)
 
-pub decimal-value : (n : ℕ) → n < 65536 → value (decimalOf n) ≡ n
-unfolding decimalOf
+pub decimal-value : (n : ℕ) → n < 65536 → value (decimal_of n) ≡ n
+unfolding decimal_of
 decimal-value n h = digits_value 4 n (omega arith)

@@ -30,44 +30,44 @@ use Rattle.instruction.specs.Fits.{within, fits}
 use Rattle.instruction.proofs.DecodedLaws.{decode-numbered}
 use Rattle.instruction.specs.declared.Instruction.{Instruction}
 use Rattle.instruction.specs.declared.Instruction.TheVariants.{Noop, Mov, MovShift, Arith, ArithRegReg, LdrStr, LdbStb, Cpy, Jmp, CondJmp, Cmp, CallRet}
-use Rattle.printer.specs.Text.{bytes, decimalOf, immediate_of, registerName, arithName, arithmeticName, compareName, shiftName, wordName, byteName, operandOf, one, pair, three, bracketed, shifted, address_of, addressed, callText, turned, textIn, text}
-use Rattle.printer.specs.Print.{placed, printNextIn, printBufferIn, printNext, printBuffer, wordNext, wordBuffer}
+use Rattle.printer.specs.Text.{bytes, decimal_of, immediate_of, register_name, arith_name, arithmetic_name, compare_name, shift_name, word_name, byte_name, operand_of, one, pair, three, bracketed, shifted, address_of, addressed, call_text, turned, text_in, text}
+use Rattle.printer.specs.Print.{placed, print_next_in, print_buffer_in, print_next, print_buffer, word_next, word_buffer}
 use Rattle.printer.proofs.DecimalLaws.{digits-length, decimal-one}
 
 module _ (e : Edition) (i : Instruction) (at : ℕ) where
-  pub next_fits : (room : ℕ) → at + length (textIn e i) ≤ room → printNextIn e i room at ≡ is (at + length (textIn e i))
-  unfolding printNextIn
+  pub next_fits : (room : ℕ) → at + length (text_in e i) ≤ room → print_next_in e i room at ≡ is (at + length (text_in e i))
+  unfolding print_next_in
   next_fits room h = rw (le-leb _ _ h)
 
-  pub next-19 : (room : ℕ) → room < at + length (textIn e i) → printNextIn e i room at ≡ no 19
-  unfolding printNextIn
+  pub next-19 : (room : ℕ) → room < at + length (text_in e i) → print_next_in e i room at ≡ no 19
+  unfolding print_next_in
   next-19 room h = rw (lt-leb _ _ h)
 
-  pub buffer-fits : (buffer : List ℕ) → at + length (textIn e i) ≤ length buffer → printBufferIn e i buffer at ≡ placed (textIn e i) buffer at
-  unfolding printBufferIn
+  pub buffer-fits : (buffer : List ℕ) → at + length (text_in e i) ≤ length buffer → print_buffer_in e i buffer at ≡ placed (text_in e i) buffer at
+  unfolding print_buffer_in
   buffer-fits buffer h = rw (le-leb _ _ h)
 
-  pub buffer-19 : (buffer : List ℕ) → length buffer < at + length (textIn e i) → printBufferIn e i buffer at ≡ buffer
-  unfolding printBufferIn
+  pub buffer-19 : (buffer : List ℕ) → length buffer < at + length (text_in e i) → print_buffer_in e i buffer at ≡ buffer
+  unfolding print_buffer_in
   buffer-19 buffer h = rw (lt-leb _ _ h)
 
 -- a word: as its instruction is, or the refusal that it says none
 module _ (w : ℕ) (i : Instruction) (e : decode w ≡ is i) where
-  pub word_next : (room : ℕ) → printNext i room 0 ≡ wordNext w room
-  unfolding wordNext
-  word_next room = rw e
+  pub word-next : (room : ℕ) → print_next i room 0 ≡ word_next w room
+  unfolding word_next
+  word-next room = rw e
 
-  pub word-buffer : (buffer : List ℕ) → printBuffer i buffer 0 ≡ wordBuffer w buffer
-  unfolding wordBuffer
+  pub word-buffer : (buffer : List ℕ) → print_buffer i buffer 0 ≡ word_buffer w buffer
+  unfolding word_buffer
   word-buffer buffer = rw e
 
 module _ (w n : ℕ) (e : decode w ≡ no n) where
-  pub none-next : (room : ℕ) → no n ≡ wordNext w room
-  unfolding wordNext
+  pub none-next : (room : ℕ) → no n ≡ word_next w room
+  unfolding word_next
   none-next room = rw e
 
-  pub none-buffer : (buffer : List ℕ) → buffer ≡ wordBuffer w buffer
-  unfolding wordBuffer
+  pub none-buffer : (buffer : List ℕ) → buffer ≡ word_buffer w buffer
+  unfolding word_buffer
   none-buffer buffer = rw e
 
 -- bytes that were stored one by one, where there is room for them
@@ -83,11 +83,11 @@ placed_first bytes out = take-append_seam bytes (drop (0 + length bytes) out)
 -- ---- lengths
 
 immediate-length : (n : ℕ) → length (immediate_of n) ≤ 6
-unfolding immediate_of decimalOf
+unfolding immediate_of decimal_of
 immediate-length n = omega (arith, digits-length 5 n)
 
-register-length : (r : Register) → length (registerName r) ≤ 5
-unfolding registerName
+register-length : (r : Register) → length (register_name r) ≤ 5
+unfolding register_name
 register-length A = omega arith
 register-length B = omega arith
 register-length C = omega arith
@@ -97,15 +97,15 @@ register-length PC = omega arith
 register-length BP = omega arith
 register-length FLAGS = omega arith
 
-arith-length : (op : ArithOp) → length (arithName op) ≤ 3
-unfolding arithName
+arith-length : (op : ArithOp) → length (arith_name op) ≤ 3
+unfolding arith_name
 arith-length four.Add = omega arith
 arith-length four.Sub = omega arith
 arith-length four.Mul = omega arith
 arith-length four.Div = omega arith
 
-arithmetic-length : (op : ArithmeticOp) → length (arithmeticName op) ≤ 5
-unfolding arithmeticName
+arithmetic-length : (op : ArithmeticOp) → length (arithmetic_name op) ≤ 5
+unfolding arithmetic_name
 arithmetic-length seven.Add = omega arith
 arithmetic-length seven.Sub = omega arith
 arithmetic-length seven.Mul = omega arith
@@ -114,8 +114,8 @@ arithmetic-length seven.Mod = omega arith
 arithmetic-length seven.Exp = omega arith
 arithmetic-length seven.Sqrt = omega arith
 
-compare-length : (op : CompareOp) → length (compareName op) ≤ 3
-unfolding compareName
+compare-length : (op : CompareOp) → length (compare_name op) ≤ 3
+unfolding compare_name
 compare-length Eq = omega arith
 compare-length NotEq = omega arith
 compare-length Less = omega arith
@@ -123,23 +123,23 @@ compare-length LessEq = omega arith
 compare-length Greater = omega arith
 compare-length GreaterEq = omega arith
 
-shift-length : (left : Bool) → length (shiftName left) ≤ 3
-unfolding shiftName
+shift-length : (left : Bool) → length (shift_name left) ≤ 3
+unfolding shift_name
 shift-length true = omega arith
 shift-length false = omega arith
 
-word-length : (store : Bool) → length (wordName store) ≤ 3
-unfolding wordName
+word-length : (store : Bool) → length (word_name store) ≤ 3
+unfolding word_name
 word-length true = omega arith
 word-length false = omega arith
 
-byte-length : (store : Bool) → length (byteName store) ≤ 3
-unfolding byteName
+byte-length : (store : Bool) → length (byte_name store) ≤ 3
+unfolding byte_name
 byte-length true = omega arith
 byte-length false = omega arith
 
-operand-length : (o : Operand) → length (operandOf o) ≤ 6
-unfolding operandOf
+operand-length : (o : Operand) → length (operand_of o) ≤ 6
+unfolding operand_of
 operand-length (Reg r) = omega (arith, register-length r)
 operand-length (Imm n) = immediate-length n
 
@@ -152,7 +152,7 @@ unfolding pair
 pair-length r o = simp length-append (omega (arith, register-length r, operand-length o))
 
 three-length : (d a b : Register) → length (three d a b) ≤ 20
-unfolding three pair operandOf
+unfolding three pair operand_of
 three-length d a b = simp length-append (omega (arith, register-length d, register-length a, register-length b))
 
 bracketed-length : (first second : ℕ) → length (bracketed first second) ≤ 15
@@ -167,7 +167,7 @@ address-length : (a : Register) (shift : ℕ) → length (address_of a shift) �
 unfolding address_of
 address-length a shift = go (eqb shift 0)
   where
-    go : (t : Bool) → length (cond t (registerName a) (bytes "[" ++ registerName a ++ bytes " " ++ immediate_of shift ++ bytes "]")) ≤ 14
+    go : (t : Bool) → length (cond t (register_name a) (bytes "[" ++ register_name a ++ bytes " " ++ immediate_of shift ++ bytes "]")) ≤ 14
     go true = omega (arith, register-length a)
     go false = simp length-append (omega (arith, register-length a, immediate-length shift))
 
@@ -175,8 +175,8 @@ addressed-length : (r a : Register) (shift : ℕ) → length (addressed r a shif
 unfolding addressed
 addressed-length r a shift = simp length-append (omega (arith, register-length r, address-length a shift))
 
-pub call_length : (ret : Bool) (a : ℕ) → length (callText ret a) ≤ 11
-unfolding callText
+pub call_length : (ret : Bool) (a : ℕ) → length (call_text ret a) ≤ 11
+unfolding call_text
 call_length true a = omega arith
 call_length false a = omega (arith, one-length (Imm a))
 
@@ -188,8 +188,8 @@ turned-length Second r amount imm = shifted-length r imm amount
 -- a bound of 25 or more, where MSL and MSR keep it
 text-bound : (n : ℕ) → 25 ≤ n → (e : Edition) (i : Instruction) →
     ((r : Register) (amount : ℕ) (left : Bool) (imm : ℕ) → i ≡ MovShift r amount left imm → length (turned e r amount imm) + 3 ≤ n) →
-    length (textIn e i) ≤ n
-unfolding textIn
+    length (text_in e i) ≤ n
+unfolding text_in
 text-bound n h e Noop s = omega arith
 text-bound n h e (Mov d o) s = omega (arith, pair-length d o)
 text-bound n h e (MovShift r amount left imm) s = rw length-append (omega (arith, shift-length left, s r amount left imm refl))
@@ -203,7 +203,7 @@ text-bound n h e (CondJmp o) s = omega (arith, one-length o)
 text-bound n h e (Cmp r o op) s = rw length-append (omega (arith, compare-length op, pair-length r o))
 text-bound n h e (CallRet ret a) s = omega (arith, call_length ret a)
 
-pub text-length : (e : Edition) (i : Instruction) → length (textIn e i) ≤ 26
+pub text-length : (e : Edition) (i : Instruction) → length (text_in e i) ≤ 26
 text-length e i = text-bound 26 (omega arith) e i (λ r amount left imm q. omega (arith, turned-length e r amount imm))
 
 -- an amount that fits has one digit
@@ -216,7 +216,7 @@ unfolding turned shifted bracketed
 few-length First r amount imm h = simp length-append (omega (arith, register-length r, digit-length amount h, immediate-length imm))
 few-length Second r amount imm h = simp length-append (omega (arith, register-length r, digit-length amount h, immediate-length imm))
 
-pub text-fitting : (e : Edition) (i : Instruction) → fits i ≡ true → length (textIn e i) ≤ 25
+pub text-fitting : (e : Edition) (i : Instruction) → fits i ≡ true → length (text_in e i) ≤ 25
 text-fitting e i f = text-bound 25 (omega arith) e i (λ r amount left imm q. omega (arith, few-length e r amount imm (few r amount left imm q)))
   where
     few : (r : Register) (amount : ℕ) (left : Bool) (imm : ℕ) → i ≡ MovShift r amount left imm → amount < 10
@@ -225,12 +225,12 @@ text-fitting e i f = text-bound 25 (omega arith) e i (λ r amount left imm q. om
         omega (arith, ltb-true amount (2 ^ 3) h.0)
 
 pub noop-text : text Noop ≡ bytes "NOOP"
-unfolding textIn
+unfolding text_in
 noop-text = refl
 
 -- no text is empty: what stands after a mnemonic starts with a space
-pub text-some : (e : Edition) (i : Instruction) → 0 < length (textIn e i)
-unfolding textIn shiftName one pair three addressed callText
+pub text-some : (e : Edition) (i : Instruction) → 0 < length (text_in e i)
+unfolding text_in shift_name one pair three addressed call_text
 text-some e Noop = omega arith
 text-some e (Mov d o) = omega arith
 text-some e (MovShift r amount true imm) = omega arith
@@ -252,18 +252,18 @@ abbrev pub Small : Told ℕ → Type 0
 Small (is n) = n ≤ 26
 Small (no n) = n ≤ 19
 
-small-next : (i : Instruction) (room : ℕ) → Small (printNext i room 0)
-unfolding printNextIn
+small-next : (i : Instruction) (room : ℕ) → Small (print_next i room 0)
+unfolding print_next_in
 small-next i room = go (leb (0 + length (text i)) room)
   where
     go : (t : Bool) → Small (cond t (is (0 + length (text i))) (no 19))
     go true = omega (arith, text-length First i)
     go false = omega arith
 
-pub word_small : (w room : ℕ) → Small (wordNext w room)
-unfolding wordNext
+pub word_small : (w room : ℕ) → Small (word_next w room)
+unfolding word_next
 word_small w room = go (decode w) (decode-numbered w)
   where
-    go : (t : Told Instruction) → Numbered 4 6 t → Small (t >>= λ i. printNext i room 0)
+    go : (t : Told Instruction) → Numbered 4 6 t → Small (t >>= λ i. print_next i room 0)
     go (is i) h = small-next i room
     go (no n) h = omega (arith, h.1)

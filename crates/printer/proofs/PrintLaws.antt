@@ -9,9 +9,9 @@ use lib.Seq.{take-length, paste, paste-suc}
 use Rattle.base.specs.Told.{is}
 use Rattle.instruction.specs.declared.Edition.{Edition}
 use Rattle.instruction.specs.declared.Instruction.{Instruction}
-use Rattle.printer.specs.Text.{textIn}
+use Rattle.printer.specs.Text.{text_in}
 use Rattle.printer.specs.Line.{blank, added}
-use Rattle.printer.specs.Print.{placed, printNextIn, printBufferIn}
+use Rattle.printer.specs.Print.{placed, print_next_in, print_buffer_in}
 use Rattle.printer.specs.declared.lines.Line.{Line}
 use Rattle.printer.proofs.LineLaws.{Holds, line-holds}
 use Rattle.printer.proofs.Laws.{text-length, next_fits, buffer-fits}
@@ -25,11 +25,11 @@ module _ (text out₀ : List ℕ) (at : ℕ) (out : List ℕ) (i : ℕ) where
   copy-end g h e = let n : i ≡ length text = omega arith in e ∙ rw (n, take-length)
 
 -- the line of an instruction has room for its text
-pub line-text : (e : Edition) (i : Instruction) (l : Line) → l ≡ added blank (textIn e i) → Holds l (textIn e i)
-line-text e i l q = rw q (line-holds (textIn e i) (omega (arith, text-length e i)))
+pub line-text : (e : Edition) (i : Instruction) (l : Line) → l ≡ added blank (text_in e i) → Holds l (text_in e i)
+line-text e i l q = rw q (line-holds (text_in e i) (omega (arith, text-length e i)))
 
-module _ (e : Edition) (i : Instruction) (out : List ℕ) (at : ℕ) (l : Line) (t : Holds l (textIn e i)) where
-  pub line-fits : at + l.len ≤ length out → (is (at + l.len) ≡ printNextIn e i (length out) at) × (placed (take l.len l.bytes) out at ≡ printBufferIn e i out at)
+module _ (e : Edition) (i : Instruction) (out : List ℕ) (at : ℕ) (l : Line) (t : Holds l (text_in e i)) where
+  pub line-fits : at + l.len ≤ length out → (is (at + l.len) ≡ print_next_in e i (length out) at) × (placed (take l.len l.bytes) out at ≡ print_buffer_in e i out at)
   line-fits h =
-      let g : at + length (textIn e i) ≤ length out = omega (arith, t.size) in
+      let g : at + length (text_in e i) ≤ length out = omega (arith, t.size) in
       (rw t.size (sym (next_fits e i at (length out) g)), rw t.text (sym (buffer-fits e i at out g)))

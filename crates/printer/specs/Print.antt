@@ -7,7 +7,7 @@ use Rattle.instruction.specs.declared.Edition.{Edition}
 use Rattle.instruction.specs.declared.Edition.TheVariants.{First}
 use Rattle.instruction.specs.declared.Instruction.{Instruction}
 use Rattle.instruction.specs.Decode.{decode}
-use Rattle.printer.specs.Text.{textIn}
+use Rattle.printer.specs.Text.{text_in}
 use Rattle.printer.specs.declared.Printed.{Printed}
 use Rattle.printer.specs.declared.Printed.TheVariants.{Next, Refused}
 
@@ -20,27 +20,27 @@ printed (Next n) = is n
 printed (Refused r) = no (number_of r)
 
 -- with room bytes in the buffer
-unfoldable pub printNextIn : Edition → Instruction → ℕ → ℕ → Told ℕ
-printNextIn e i room at = cond (leb (at + length (textIn e i)) room) (is (at + length (textIn e i))) (no 19)
+unfoldable pub print_next_in : Edition → Instruction → ℕ → ℕ → Told ℕ
+print_next_in e i room at = cond (leb (at + length (text_in e i)) room) (is (at + length (text_in e i))) (no 19)
 
-unfoldable pub printBufferIn : Edition → Instruction → List ℕ → ℕ → List ℕ
-printBufferIn e i buffer at = cond (leb (at + length (textIn e i)) (length buffer)) (placed (textIn e i) buffer at) buffer
+unfoldable pub print_buffer_in : Edition → Instruction → List ℕ → ℕ → List ℕ
+print_buffer_in e i buffer at = cond (leb (at + length (text_in e i)) (length buffer)) (placed (text_in e i) buffer at) buffer
 
 -- as a listing shows it
-abbrev pub printNext : Instruction → ℕ → ℕ → Told ℕ
-printNext i room at = printNextIn First i room at
+abbrev pub print_next : Instruction → ℕ → ℕ → Told ℕ
+print_next i room at = print_next_in First i room at
 
-abbrev pub printBuffer : Instruction → List ℕ → ℕ → List ℕ
-printBuffer i buffer at = printBufferIn First i buffer at
+abbrev pub print_buffer : Instruction → List ℕ → ℕ → List ℕ
+print_buffer i buffer at = print_buffer_in First i buffer at
 
 -- ---- what a word says, at the start of a buffer: 4 to 6 where it says no instruction, then 19; both write nothing
 
-unfoldable pub wordNext : ℕ → ℕ → Told ℕ
-wordNext w room = decode w >>= λ i. printNext i room 0
+unfoldable pub word_next : ℕ → ℕ → Told ℕ
+word_next w room = decode w >>= λ i. print_next i room 0
 
-abbrev pub saidBuffer : Told Instruction → List ℕ → List ℕ
-saidBuffer (is i) buffer = printBuffer i buffer 0
-saidBuffer (no n) buffer = buffer
+abbrev pub said_buffer : Told Instruction → List ℕ → List ℕ
+said_buffer (is i) buffer = print_buffer i buffer 0
+said_buffer (no n) buffer = buffer
 
-unfoldable pub wordBuffer : ℕ → List ℕ → List ℕ
-wordBuffer w buffer = saidBuffer (decode w) buffer
+unfoldable pub word_buffer : ℕ → List ℕ → List ℕ
+word_buffer w buffer = said_buffer (decode w) buffer

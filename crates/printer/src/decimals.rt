@@ -1,13 +1,13 @@
 // Numbers in decimal.
 ghost use Rattle.std.specs.Prelude.{◌≡◌};
 ghost use Rattle.printer.specs.Line.{added};
-ghost use Rattle.printer.specs.Text.{decimalOf, immediate_of};
+ghost use Rattle.printer.specs.Text.{decimal_of, immediate_of};
 
 use crate::lines::{Line, add, push};
 
 // The digits of the tens, then the last one.
 pub fn decimal(l: Line, n: u16) -> Line
-    ensures { result ≡ added l (decimalOf n) }
+    ensures { result ≡ added l (decimal_of n) }
 {
     if n < 10 {
         return push(l, 48 + n as u8);

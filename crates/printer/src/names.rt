@@ -1,13 +1,13 @@
 // The names of registers, and the mnemonics.
 ghost use Rattle.std.specs.Prelude.{◌≡◌};
 ghost use Rattle.printer.specs.Line.{added};
-ghost use Rattle.printer.specs.Text.{registerName, arithName, arithmeticName, compareName, shiftName, wordName, byteName};
+ghost use Rattle.printer.specs.Text.{register_name, arith_name, arithmetic_name, compare_name, shift_name, word_name, byte_name};
 
 use crate::lines::{Line, add};
 use instruction::{ArithOp, ArithmeticOp, CompareOp, Register};
 
 pub fn register(l: Line, r: Register) -> Line
-    ensures { result ≡ added l (registerName r) }
+    ensures { result ≡ added l (register_name r) }
 {
     match r {
         Register::A => add(l, b"A"),
@@ -22,7 +22,7 @@ pub fn register(l: Line, r: Register) -> Line
 }
 
 pub fn arith_name(l: Line, op: ArithOp) -> Line
-    ensures { result ≡ added l (arithName op) }
+    ensures { result ≡ added l (arith_name op) }
 {
     match op {
         ArithOp::Add => add(l, b"ADD"),
@@ -33,7 +33,7 @@ pub fn arith_name(l: Line, op: ArithOp) -> Line
 }
 
 pub fn arithmetic_name(l: Line, op: ArithmeticOp) -> Line
-    ensures { result ≡ added l (arithmeticName op) }
+    ensures { result ≡ added l (arithmetic_name op) }
 {
     match op {
         ArithmeticOp::Add => add(l, b"ADDR"),
@@ -47,7 +47,7 @@ pub fn arithmetic_name(l: Line, op: ArithmeticOp) -> Line
 }
 
 pub fn compare_name(l: Line, op: CompareOp) -> Line
-    ensures { result ≡ added l (compareName op) }
+    ensures { result ≡ added l (compare_name op) }
 {
     match op {
         CompareOp::Eq => add(l, b"EQ"),
@@ -60,7 +60,7 @@ pub fn compare_name(l: Line, op: CompareOp) -> Line
 }
 
 pub fn shift_name(l: Line, left: bool) -> Line
-    ensures { result ≡ added l (shiftName left) }
+    ensures { result ≡ added l (shift_name left) }
 {
     if left {
         return add(l, b"MSL");
@@ -69,7 +69,7 @@ pub fn shift_name(l: Line, left: bool) -> Line
 }
 
 pub fn word_name(l: Line, store: bool) -> Line
-    ensures { result ≡ added l (wordName store) }
+    ensures { result ≡ added l (word_name store) }
 {
     if store {
         return add(l, b"STR");
@@ -78,7 +78,7 @@ pub fn word_name(l: Line, store: bool) -> Line
 }
 
 pub fn byte_name(l: Line, store: bool) -> Line
-    ensures { result ≡ added l (byteName store) }
+    ensures { result ≡ added l (byte_name store) }
 {
     if store {
         return add(l, b"STB");

@@ -1,7 +1,7 @@
 // What stands after a mnemonic, from the space on.
 ghost use Rattle.std.specs.Prelude.{◌≡◌};
 ghost use Rattle.printer.specs.Line.{added};
-ghost use Rattle.printer.specs.Text.{operandOf, one, pair, three, bracketed, shifted, turned, address_of, addressed};
+ghost use Rattle.printer.specs.Text.{operand_of, one, pair, three, bracketed, shifted, turned, address_of, addressed};
 
 use crate::decimals::immediate;
 use crate::lines::{Line, add};
@@ -10,7 +10,7 @@ use instruction::{Edition, Operand, Register};
 
 // A register's name, or `#` and the number.
 pub fn operand(l: Line, o: Operand) -> Line
-    ensures { result ≡ added l (operandOf o) }
+    ensures { result ≡ added l (operand_of o) }
 {
     match o {
         Operand::Reg(r) => register(l, r),

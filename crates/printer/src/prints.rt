@@ -1,6 +1,6 @@
 // Printing into a lent buffer.
 ghost use Rattle.std.specs.Prelude.{◌≡◌, length, ◌+◌, ◌≤◌};
-ghost use Rattle.printer.specs.Print.{placed, printed, printNextIn, printBufferIn, printNext, printBuffer, wordNext, wordBuffer};
+ghost use Rattle.printer.specs.Print.{placed, printed, print_next_in, print_buffer_in, print_next, print_buffer, word_next, word_buffer};
 
 use crate::Printed;
 use crate::texts::line_of;
@@ -22,8 +22,8 @@ fn copy(text: &[u8], out: &mut [u8], at: usize)
 // Writes the instruction's text into out from position at on, and answers the position after it; 19 where it doesn't fit, and then
 // nothing is written. All other bytes of out stay.
 pub fn print_in(e: Edition, i: Instruction, out: &mut [u8], at: usize) -> Printed
-    ensures result_value { printed result ≡ printNextIn e i (length out.old) at }
-    ensures out_after { out.new ≡ printBufferIn e i out.old at }
+    ensures result_value { printed result ≡ print_next_in e i (length out.old) at }
+    ensures out_after { out.new ≡ print_buffer_in e i out.old at }
 {
     let l = line_of(e, i);
     let bytes = l.bytes;
@@ -40,16 +40,16 @@ pub fn print_in(e: Edition, i: Instruction, out: &mut [u8], at: usize) -> Printe
 
 // The same by the first edition, as a listing shows it.
 pub fn print(i: Instruction, out: &mut [u8], at: usize) -> Printed
-    ensures result_value { printed result ≡ printNext i (length out.old) at }
-    ensures out_after { out.new ≡ printBuffer i out.old at }
+    ensures result_value { printed result ≡ print_next i (length out.old) at }
+    ensures out_after { out.new ≡ print_buffer i out.old at }
 {
     print_in(Edition::First, i, out, at)
 }
 
 // Writes what a word says at the start of out: 4 to 6 where it says no instruction, then as `print` does.
 pub fn print_word(w: u16, out: &mut [u8]) -> Printed
-    ensures result_value { printed result ≡ wordNext w (length out.old) }
-    ensures out_after { out.new ≡ wordBuffer w out.old }
+    ensures result_value { printed result ≡ word_next w (length out.old) }
+    ensures out_after { out.new ≡ word_buffer w out.old }
 {
     let d = decode(w);
     match d {

@@ -1,7 +1,7 @@
 // The text of an instruction.
 ghost use Rattle.std.specs.Prelude.{◌≡◌};
 ghost use Rattle.printer.specs.Line.{blank, added};
-ghost use Rattle.printer.specs.Text.{textIn, callText};
+ghost use Rattle.printer.specs.Text.{text_in, call_text};
 
 use crate::lines::{Line, add, empty};
 use crate::names::{arith_name, arithmetic_name, byte_name, compare_name, shift_name, word_name};
@@ -9,7 +9,7 @@ use crate::operands::{addressed, one, pair, three, turned};
 use instruction::{Edition, Instruction, Operand};
 
 fn call(l: Line, ret: bool, a: u16) -> Line
-    ensures { result ≡ added l (callText ret a) }
+    ensures { result ≡ added l (call_text ret a) }
 {
     if ret {
         return add(l, b"RET");
@@ -18,7 +18,7 @@ fn call(l: Line, ret: bool, a: u16) -> Line
 }
 
 pub fn line_of(e: Edition, i: Instruction) -> Line
-    ensures { result ≡ added blank (textIn e i) }
+    ensures { result ≡ added blank (text_in e i) }
 {
     let l = empty();
     match i {

@@ -134,10 +134,10 @@ module _ {M : Type 1} {𝓤 : Ura M} (𝓛 : Logic 𝓤) where
 
       module _ (ψ : Promise (taking res)) where
         -- how a walk ends: with the result, the token, and what the reader owns
-        abbrev pub Ended-at : Val → SProp 𝓤
-        Ended-at = (walk_of 𝓛 (taking res) (stayed res) (promised (taking res) 𝓤 ψ)).post (whole-reader, tt)
+        abbrev pub EndedAt : Val → SProp 𝓤
+        EndedAt = (walk_of 𝓛 (taking res) (stayed res) (promised (taking res) 𝓤 ψ)).post (whole-reader, tt)
 
-        pub ends : (r : R.Denot) (u : Val) → ψ (κ, tt) (d, tt) r → ent 𝓤 (⋆ 𝓛 (‵ (R.own_val r (u ∷ [])) ∷ Token κ q ∷ ‵ (Own κ d) ∷ [])) (Ended-at u)
+        pub ends : (r : R.Denot) (u : Val) → ψ (κ, tt) (d, tt) r → ent 𝓤 (⋆ 𝓛 (‵ (R.own_val r (u ∷ [])) ∷ Token κ q ∷ ‵ (Own κ d) ∷ [])) (EndedAt u)
         ends r u e =
             qed 𝓛 (‵ (R.own_val r (u ∷ [])) ∷ Token κ q ∷ ‵ (Own κ d) ∷ []) ∵
             suffices ! _ (ends_at 𝓛 (taking res) (stayed res) (promised (taking res) 𝓤 ψ) (whole-reader, tt) u r (tt, tt) (tt, tt)) $ says ! e $
@@ -156,7 +156,7 @@ module _ {M : Type 1} {𝓤 : Ura M} (𝓛 : Logic 𝓤) where
     -- a walk for every reader gives the contract
     module _ (res : Slot 1) (ψ : Promise (taking res)) (𝓣 : Tables 𝓤 H) (f : Fn) where
       abbrev pub Walk : Type 1
-      Walk = (κ : Lft) (q : Share) (d : LineReader) → Holds (has_ty (T'.mir (named 0)) (T'.lowered d)) × WT (T'.lowered d) → ent 𝓤 (entry κ q d) (WpFn 𝓤 H 𝓣.C 𝓣.Λ f (T'.lowered d ∷ []) (Ended-at κ q d res ψ))
+      Walk = (κ : Lft) (q : Share) (d : LineReader) → Holds (has_ty (T'.mir (named 0)) (T'.lowered d)) × WT (T'.lowered d) → ent 𝓤 (entry κ q d) (WpFn 𝓤 H 𝓣.C 𝓣.Λ f (T'.lowered d ∷ []) (EndedAt κ q d res ψ))
 
       pub meets : Walk → Meets 𝓛 (taking res).signature (WpFn 𝓤 H 𝓣.C 𝓣.Λ f) (closing 𝓛 (taking res) (promised (taking res) 𝓤 ψ))
       meets walk =

@@ -4,7 +4,7 @@ mod foreign;
 mod lines;
 
 ghost use Rattle.std.specs.Prelude.{◌≡◌, length, ltb};
-ghost use Rattle.reader.specs.Reader.{line_at, afterLine, cleanAt};
+ghost use Rattle.reader.specs.Reader.{line_at, after_line, clean_at};
 
 pub use foreign::foreign_line;
 use lines::{after_line, clean_at, line_at};
@@ -38,14 +38,14 @@ pub fn line<'a>(r: LineReader<'a>) -> &'a [u8]
 
 // Is there a line at the position, all of it ASCII?
 pub fn clean<'a>(r: LineReader<'a>) -> bool
-    ensures { result ≡ cleanAt r.entry.text.now r.entry.at }
+    ensures { result ≡ clean_at r.entry.text.now r.entry.at }
 {
     clean_at(r.text, r.at)
 }
 
 // At the line after this one; past the last line the reader stays where it is.
 pub fn after<'a>(r: LineReader<'a>) -> LineReader<'a>
-    ensures { (result.text ≡ r.entry.text) × (result.at ≡ afterLine r.entry.text.now r.entry.at) }
+    ensures { (result.text ≡ r.entry.text) × (result.at ≡ after_line r.entry.text.now r.entry.at) }
 {
     let next = after_line(r.text, r.at);
     LineReader {

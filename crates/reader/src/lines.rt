@@ -1,6 +1,6 @@
 // Lines by a cursor: where one is, what comes after it, and whether it is ASCII.
 ghost use Rattle.std.specs.Prelude.{◌≡◌};
-ghost use Rattle.reader.specs.Reader.{line_at, afterLine, isAscii, cleanAt};
+ghost use Rattle.reader.specs.Reader.{line_at, after_line, is_ascii, clean_at};
 
 use text::line_end;
 
@@ -17,7 +17,7 @@ pub fn line_at(s: &[u8], at: usize) -> &[u8]
 
 // Where the line after it starts; past the text `at` itself.
 pub fn after_line(s: &[u8], at: usize) -> usize
-    ensures { result ≡ afterLine s.now at }
+    ensures { result ≡ after_line s.now at }
 {
     if at < s.len() {
         line_end(s, at) + 1
@@ -27,7 +27,7 @@ pub fn after_line(s: &[u8], at: usize) -> usize
 }
 
 fn is_ascii(s: &[u8]) -> bool
-    ensures { result ≡ isAscii s.now }
+    ensures { result ≡ is_ascii s.now }
 {
     let mut i = 0;
     while i < s.len() {
@@ -41,7 +41,7 @@ fn is_ascii(s: &[u8]) -> bool
 
 // Is there a line at `at`, with no byte over 127?
 pub fn clean_at(s: &[u8], at: usize) -> bool
-    ensures { result ≡ cleanAt s.now at }
+    ensures { result ≡ clean_at s.now at }
 {
     if at < s.len() {
         is_ascii(line_at(s, at))

@@ -10,11 +10,11 @@ use lib.Seq.{take_at, drop_at, length-take-le, take-take, drop-drop}
 use borrow.Author.Tests.{ltb-true, ltb-false}
 use native.Mathlib.Nat.{mod-add-div}
 use native.Mathlib.Omega.{arith}
-use Rattle.wordbytes.specs.Words.{bytes_of, wordsFrom}
+use Rattle.wordbytes.specs.Words.{bytes_of, words_from}
 use Rattle.wordbytes.proofs.Laws.{length-bytes, length-words, words_back}
 use Rattle.records.specs.declared.Record.{Record}
-use Rattle.records.specs.Records.{oldBytes, encode, decode}
-use Rattle.records.specs.Slots.{room, recordAt, filled}
+use Rattle.records.specs.Records.{old_bytes, encode, decode}
+use Rattle.records.specs.Slots.{room, record_at, filled}
 
 -- ---- a record's bytes
 
@@ -25,15 +25,15 @@ length-encode r e = simp (length-append, length-bytes, e)
 pub decode-encode : (r : Record) → length r.registers ≡ 8 → decode (encode r) ≡ r
 unfolding encode decode
 decode-encode r e =
-    let t = oldBytes r.first ++ oldBytes r.second in
+    let t = old_bytes r.first ++ old_bytes r.second in
     let n : length (bytes_of r.registers) ≡ 16 = length-bytes r.registers ∙ ap (λ (k : ℕ). 2 * k) e in
-    let u : wordsFrom 8 (bytes_of r.registers ++ t) ≡ r.registers = rw (← e) (words_back r.registers t) in
-    let v : drop 19 (bytes_of r.registers ++ t) ≡ oldBytes r.second = sym (drop-drop 3 16 (bytes_of r.registers ++ t)) ∙ ap (drop 3) (drop_at (bytes_of r.registers) t 16 n) in
+    let u : words_from 8 (bytes_of r.registers ++ t) ≡ r.registers = rw (← e) (words_back r.registers t) in
+    let v : drop 19 (bytes_of r.registers ++ t) ≡ old_bytes r.second = sym (drop-drop 3 16 (bytes_of r.registers ++ t)) ∙ ap (drop 3) (drop_at (bytes_of r.registers) t 16 n) in
     rw (drop_at (bytes_of r.registers) t 16 n, v, u, mod-add-div r.first.address 256, mod-add-div r.second.address 256)
 
 -- whatever the bytes are, eight registers are read
-pub record-eight : (l : List ℕ) (k : ℕ) → length (recordAt l k).registers ≡ 8
-unfolding recordAt decode
+pub record-eight : (l : List ℕ) (k : ℕ) → length (record_at l k).registers ≡ 8
+unfolding record_at decode
 record-eight l k = length-words 8 _
 
 -- ---- slots
@@ -69,8 +69,8 @@ module _ (l : List ℕ) (k : ℕ) (r : Record) (e : length r.registers ≡ 8) (h
   pub room-filled : room (filled l k r) ≡ room l
   room-filled = room-length (filled l k r) l length-filled
 
-  pub filled-own : recordAt (filled l k r) k ≡ r
-  unfolding recordAt filled
+  pub filled-own : record_at (filled l k r) k ≡ r
+  unfolding record_at filled
   filled-own =
       let a : drop (23 * k) (take (23 * k) l ++ encode r ++ drop (23 * k + 23) l) ≡ encode r ++ drop (23 * k + 23) l = rw append_assoc (drop_at (take (23 * k) l) (encode r ++ drop (23 * k + 23) l) (23 * k) front) in
       rw (a, take_at (encode r) (drop (23 * k + 23) l) 23 (length-encode r e)) (decode-encode r e)
@@ -94,6 +94,6 @@ module _ (l : List ℕ) (k : ℕ) (r : Record) (e : length r.registers ≡ 8) (h
           let m : 23 * i ≡ 23 * k + 23 + (23 * i - (23 * k + 23)) = omega (arith, ltb-false i k f, n) in
           rw (m, ← drop-drop (23 * i - (23 * k + 23)) (23 * k + 23) (filled l k r), ← drop-drop (23 * i - (23 * k + 23)) (23 * k + 23) l, after_kept)
 
-  pub filled-other : (i : ℕ) → (i ≡ k → ⊥) → recordAt (filled l k r) i ≡ recordAt l i
-  unfolding recordAt
+  pub filled-other : (i : ℕ) → (i ≡ k → ⊥) → record_at (filled l k r) i ≡ record_at l i
+  unfolding record_at
   filled-other i n = ap decode (slot_kept i n)

@@ -10,8 +10,8 @@ use Rattle.wordbytes.specs.Words.{word_at, bytes_of}
 use Rattle.wordbytes.proofs.Laws.{length-bytes}
 use Rattle.wordbytes.proofs.Parts.{words-eight, sets-next}
 use Rattle.records.specs.declared.Record.{Record}
-use Rattle.records.specs.Records.{old, entry, oldBytes, encode, decode}
-use Rattle.records.specs.Slots.{room, recordAt, filled}
+use Rattle.records.specs.Records.{old, entry, old_bytes, encode, decode}
+use Rattle.records.specs.Slots.{room, record_at, filled}
 use Rattle.records.proofs.Laws.{length-encode, slot-within}
 
 -- ---- read
@@ -24,23 +24,23 @@ pub decode-flat : (l : List ℕ)
 unfolding decode
 decode-flat l = simp (words-eight, get_or-drop)
 
-pub part-slot : (k : ℕ) (l : List ℕ) → decode (take (23 * k + 23 - 23 * k) (drop (23 * k) l)) ≡ recordAt l k
-unfolding recordAt
+pub part-slot : (k : ℕ) (l : List ℕ) → decode (take (23 * k + 23 - 23 * k) (drop (23 * k) l)) ≡ record_at l k
+unfolding record_at
 part-slot k l = let e : 23 * k + 23 - 23 * k ≡ 23 = omega arith in rw e
 
 -- ---- written
 
 -- the four parts of a record
 pub encode-parts : (l : List ℕ) (i : ℕ) (r : Record) → length r.registers ≡ 8
-    → sets (sets (sets (set l i r.kind) (i + 1) (bytes_of r.registers)) (i + 17) (oldBytes r.first)) (i + 20) (oldBytes r.second)
+    → sets (sets (sets (set l i r.kind) (i + 1) (bytes_of r.registers)) (i + 17) (old_bytes r.first)) (i + 20) (old_bytes r.second)
     ≡ sets l i (encode r)
 unfolding encode
 encode-parts l i r e =
     let n : length (bytes_of r.registers) ≡ 16 = length-bytes r.registers ∙ ap (λ (k : ℕ). 2 * k) e in
     let m = set l i r.kind in
     let s : i + 1 ≡ suc i = omega arith in
-    rw s (sets-next (oldBytes r.first) (oldBytes r.second) (sets m (suc i) (bytes_of r.registers)) (i + 17) (i + 20) (omega arith)
-    ∙ sets-next (bytes_of r.registers) (oldBytes r.first ++ oldBytes r.second) m (suc i) (i + 17) (omega arith))
+    rw s (sets-next (old_bytes r.first) (old_bytes r.second) (sets m (suc i) (bytes_of r.registers)) (i + 17) (i + 20) (omega arith)
+    ∙ sets-next (bytes_of r.registers) (old_bytes r.first ++ old_bytes r.second) m (suc i) (i + 17) (omega arith))
 
 pub sets-filled : (l : List ℕ) (k : ℕ) (r : Record) → length r.registers ≡ 8 → k < room l → sets l (23 * k) (encode r) ≡ filled l k r
 unfolding filled

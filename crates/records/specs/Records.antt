@@ -2,7 +2,7 @@
 -- zero, numbers low byte first.
 use Rattle.std.specs.Prelude.{ℕ, List, [], ◌∷◌, ◌++◌, get_or, drop}
 use Rattle.base.specs.Words.{low_of, high_of}
-use Rattle.wordbytes.specs.Words.{bytes_of, word_at, wordsFrom}
+use Rattle.wordbytes.specs.Words.{bytes_of, word_at, words_from}
 use Rattle.records.specs.declared.Old.{Old}
 use Rattle.records.specs.declared.Record.{Record}
 
@@ -14,16 +14,16 @@ entry kind registers first second = record { kind = kind; registers = registers;
 
 -- ---- to bytes
 
-abbrev pub oldBytes : Old → List ℕ
-oldBytes o = low_of o.address ∷ high_of o.address ∷ o.byte ∷ []
+abbrev pub old_bytes : Old → List ℕ
+old_bytes o = low_of o.address ∷ high_of o.address ∷ o.byte ∷ []
 
 unfoldable pub encode : Record → List ℕ
-encode r = r.kind ∷ bytes_of r.registers ++ (oldBytes r.first ++ oldBytes r.second)
+encode r = r.kind ∷ bytes_of r.registers ++ (old_bytes r.first ++ old_bytes r.second)
 
 -- ---- and from them
 
-abbrev pub oldFrom : List ℕ → Old
-oldFrom bytes = old (word_at bytes 0) (get_or bytes 2 0)
+abbrev pub old_from : List ℕ → Old
+old_from bytes = old (word_at bytes 0) (get_or bytes 2 0)
 
 unfoldable pub decode : List ℕ → Record
-decode bytes = entry (get_or bytes 0 0) (wordsFrom 8 (drop 1 bytes)) (oldFrom (drop 17 bytes)) (oldFrom (drop 20 bytes))
+decode bytes = entry (get_or bytes 0 0) (words_from 8 (drop 1 bytes)) (old_from (drop 17 bytes)) (old_from (drop 20 bytes))

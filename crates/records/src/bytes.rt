@@ -1,7 +1,7 @@
 // A record as 23 bytes: numbers low byte first.
 ghost use Rattle.std.specs.Prelude.{◌≡◌, length, ◌+◌, ◌≤◌};
 ghost use Rattle.std.proofs.lemmas.List.Edits.{sets};
-ghost use Rattle.records.specs.Records.{oldBytes, encode, decode};
+ghost use Rattle.records.specs.Records.{old_bytes, encode, decode};
 
 use crate::{Old, Record};
 use wordbytes::{put_eight, put_word, word_at};
@@ -37,7 +37,7 @@ pub fn decode(bytes: &[u8]) -> Record
 // Writes an address and the old byte at it over three bytes.
 fn put_old(bytes: &mut [u8], i: usize, o: Old)
     requires { i + 3 ≤ length bytes.old }
-    ensures { bytes.new ≡ sets bytes.old i (oldBytes o) }
+    ensures { bytes.new ≡ sets bytes.old i (old_bytes o) }
 {
     put_word(bytes, i, o.address);
     bytes[i + 2] = o.byte;

@@ -1,6 +1,6 @@
 // The slots of a journal.
 ghost use Rattle.std.specs.Prelude.{◌≡◌, ◌+◌, ◌<◌, min};
-ghost use Rattle.records.specs.Slots.{room, recordAt, filled, slotAfter, slotBefore};
+ghost use Rattle.records.specs.Slots.{room, record_at, filled, slot_after, slot_before};
 
 use crate::Record;
 use crate::bytes::{decode, encode};
@@ -16,14 +16,14 @@ pub fn room(journal: &[u8]) -> u16
 // The slot after k and the slot before it, in a ring of d.
 pub fn slot_after(d: u16, k: u16) -> u16
     requires { k < d }
-    ensures { result ≡ slotAfter d k }
+    ensures { result ≡ slot_after d k }
 {
     if k + 1 < d { k + 1 } else { 0 }
 }
 
 pub fn slot_before(d: u16, k: u16) -> u16
     requires { k < d }
-    ensures { result ≡ slotBefore d k }
+    ensures { result ≡ slot_before d k }
 {
     if 0 < k { k - 1 } else { d - 1 }
 }
@@ -38,7 +38,7 @@ pub fn one_more(d: u16, held: u16) -> u16
 // The record in slot k.
 pub fn read(journal: &[u8], k: u16) -> Record
     requires { k < room journal.now }
-    ensures { result ≡ recordAt journal.now k }
+    ensures { result ≡ record_at journal.now k }
 {
     let at = 23 * (k as usize);
     decode(&journal[at..at + 23])

@@ -13,15 +13,15 @@ use Rattle.asm.specs.Work.{Work}
 use Rattle.asm.specs.Assemble.{Outcome, accepted, refused, outcome, filled, report}
 use Rattle.asm.proofs.FillLaws.{filled-parts}
 use Rattle.asm.proofs.Rooms.{report-most}
-use Rattle.source.specs.Source.{sourceText, Answer, length-of, refusal, byteAnswer, byteBuffer, Small}
+use Rattle.source.specs.Source.{source_text, Answer, length_of, refusal, byte_answer, byte_buffer, Small}
 use Rattle.source.specs.Promises.{Back}
 use Rattle.source.proofs.ByteLaws.{byte-length, byte_small}
 use Rattle.source.proofs.Back.{text-back}
-use Rattle.numbers.specs.Answers.{mostLines, sourcedNumber}
+use Rattle.numbers.specs.Answers.{most_lines, sourced_number}
 use Rattle.numbers.proofs.Parts.{the_code, the-count, no_code, the_open}
-use Rattle.seamkettle.specs.Calls.{assembling, assembleNumber, assembledWords}
+use Rattle.seamkettle.specs.Calls.{assembling, assemble_number, assembled_words}
 use Rattle.seamkettle.specs.Means.{code_of}
-use Rattle.seamkettle.specs.Back.{bytesCounted, Same, Full, BackFromC}
+use Rattle.seamkettle.specs.Back.{bytes_counted, Same, Full, BackFromC}
 
 -- words that fill a buffer
 filled-full : (room : ℕ) (ws : List ℕ) → length ws ≡ room → filled room ws ≡ ws
@@ -37,7 +37,7 @@ module _ (text words buffer : List ℕ) (b : are_bytes words ≡ true) (h : leng
   whole = even-yes buffer (ap (λ (k : ℕ). k % 2) l ∙ h)
 
   accepted-same : (w : Work) → outcome false text (length buffer / 2) 1024 ≡ accepted w → (w.words ≡ words_in words) × (length w.waiting ≡ 0) → Same text buffer words
-  unfolding assembleNumber assembledWords assembling
+  unfolding assemble_number assembled_words assembling
   accepted-same w e k =
       let x = length w.words in
       let y = length w.labels in
@@ -52,24 +52,24 @@ module _ (text words buffer : List ℕ) (b : are_bytes words ≡ true) (h : leng
         bytes = rw (whole, e) full;
       }
 
-  refused-28 : (n line : ℕ) → outcome false text (length buffer / 2) 1024 ≡ refused n line → n ≡ 28 → code_of (assembleNumber false text buffer) ≡ 28
-  unfolding assembleNumber assembling
-  refused-28 n line e k = rw (whole, e, k) (the_code 28 (min line mostLines) (omega arith))
+  refused-28 : (n line : ℕ) → outcome false text (length buffer / 2) 1024 ≡ refused n line → n ≡ 28 → code_of (assemble_number false text buffer) ≡ 28
+  unfolding assemble_number assembling
+  refused-28 n line e k = rw (whole, e, k) (the_code 28 (min line most_lines) (omega arith))
 
   back : (o : Outcome) → outcome false text (length buffer / 2) 1024 ≡ o → Back (words_in words) o → Same text buffer words ⊎ Full text buffer words
   back (accepted w) e k = inl (accepted-same w e k)
   back (refused n line) e k = inr (refused-28 n line e k.0, k.1)
 
 pub back-from-c : BackFromC
-back-from-c words out buffer b l = go (byteAnswer words (length out)) refl (byte_small words (length out))
+back-from-c words out buffer b l = go (byte_answer words (length out)) refl (byte_small words (length out))
   where
-    go : (a : Answer) → byteAnswer words (length out) ≡ a → Small a → code_of (sourcedNumber a) ≡ 0 →
-        let text = take (bytesCounted (sourcedNumber a)) (byteBuffer words out) in
+    go : (a : Answer) → byte_answer words (length out) ≡ a → Small a → code_of (sourced_number a) ≡ 0 →
+        let text = take (bytes_counted (sourced_number a)) (byte_buffer words out) in
         Same text buffer words ⊎ Full text buffer words
-    go (length-of n) e s c =
+    go (length_of n) e s c =
         let k = byte-length words out n e in
-        let text : take (bytesCounted (sourcedNumber (length-of n))) (byteBuffer words out) ≡ sourceText (words_in words) =
-        ap (λ (m : ℕ). take m (byteBuffer words out)) (the-count 0 n (omega arith)) ∙ k.2 in
-        rw text (back (sourceText (words_in words)) words buffer b k.0 l _ refl
-        (text-back (words_in words) (length out) n k.1 (length buffer / 2) 1024 (omega (arith, half (sourceText (words_in words)) words buffer b k.0 l)) (omega arith)))
+        let text : take (bytes_counted (sourced_number (length_of n))) (byte_buffer words out) ≡ source_text (words_in words) =
+        ap (λ (m : ℕ). take m (byte_buffer words out)) (the-count 0 n (omega arith)) ∙ k.2 in
+        rw text (back (source_text (words_in words)) words buffer b k.0 l _ refl
+        (text-back (words_in words) (length out) n k.1 (length buffer / 2) 1024 (omega (arith, half (source_text (words_in words)) words buffer b k.0 l)) (omega arith)))
     go (refusal n index) e s c = absurd (omega (arith, c, the_code n index (omega (arith, s.1)), s.0))

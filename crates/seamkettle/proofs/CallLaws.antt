@@ -10,14 +10,14 @@ use Rattle.journal.specs.States.{whole}
 use Rattle.journal.specs.declared.State.{State}
 use Rattle.journal.specs.Step.{Result, result, step}
 use Rattle.journal.specs.Run.{Ran, ran, run}
-use Rattle.journal.specs.Back.{Backed, backed, stepBack}
-use Rattle.block.specs.Block.{isBlock, packed, unpacked}
-use Rattle.numbers.specs.Answers.{coded, stepCode}
-use Rattle.seamkettle.specs.Calls.{seen, shown, stepping, running, steppingBack, number_in, blockAfter}
+use Rattle.journal.specs.Back.{Backed, backed, step_back}
+use Rattle.block.specs.Block.{is_block, packed, unpacked}
+use Rattle.numbers.specs.Answers.{coded, step_code}
+use Rattle.seamkettle.specs.Calls.{seen, shown, stepping, running, stepping_back, number_in, block_after}
 
 -- ---- no block
 
-module _ (block : List ℕ) (e : isBlock block ≡ false) where
+module _ (block : List ℕ) (e : is_block block ≡ false) where
   module _ (b : Lent) (j : List ℕ) {n : ℕ} (m : n ≡ 31) where
     pub stepping-none : seen n block b j ≡ stepping block b j
     unfolding stepping
@@ -27,40 +27,40 @@ module _ (block : List ℕ) (e : isBlock block ≡ false) where
     unfolding running
     running_none steps = rw (e, m)
 
-    pub stepping-back-none : seen n block b j ≡ steppingBack block b j
-    unfolding steppingBack
+    pub stepping-back-none : seen n block b j ≡ stepping_back block b j
+    unfolding stepping_back
     stepping-back-none = rw (e, m)
 
   pub number-none : {n : ℕ} → n ≡ 31 → (entry : State → ℕ) → n ≡ number_in block entry
   unfolding number_in
   number-none m entry = m ∙ rw e
 
-  pub block_none : (entry : State → State) → block ≡ blockAfter block entry
-  unfolding blockAfter
+  pub block_none : (entry : State → State) → block ≡ block_after block entry
+  unfolding block_after
   block_none entry = rw e
 
 -- ---- a block, whose state is s, and t is the state that is packed
 
-module _ (block : List ℕ) (e : isBlock block ≡ true) {s : State} (u : s ≡ unpacked block) where
+module _ (block : List ℕ) (e : is_block block ≡ true) {s : State} (u : s ≡ unpacked block) where
   module _ {t : State} {left : List ℕ} (p : left ≡ packed t) where
     module _ (b : Lent) (j : List ℕ) {c : Lent} {k : List ℕ} {n : ℕ} where
-      pub stepping-some : {a : Told answers.Reply} → result a (whole t c k) ≡ step (whole s b j) → n ≡ stepCode a
+      pub stepping-some : {a : Told answers.Reply} → result a (whole t c k) ≡ step (whole s b j) → n ≡ step_code a
           → seen n left c k ≡ stepping block b j
       unfolding stepping
-      stepping-some h m = rw (e, m, p, ← u) (ap (λ (x : Result). shown (stepCode x.answer) x.whole) h)
+      stepping-some h m = rw (e, m, p, ← u) (ap (λ (x : Result). shown (step_code x.answer) x.whole) h)
 
       pub running-some : (steps : ℕ) {a : Told answers.Reply} {i : ℕ} → ran a i (whole t c k) ≡ run steps (whole s b j)
-          → n ≡ coded (stepCode a) i → seen n left c k ≡ running steps block b j
+          → n ≡ coded (step_code a) i → seen n left c k ≡ running steps block b j
       unfolding running
-      running-some steps h m = rw (e, m, p, ← u) (ap (λ (x : Ran). shown (coded (stepCode x.answer) x.count) x.whole) h)
+      running-some steps h m = rw (e, m, p, ← u) (ap (λ (x : Ran). shown (coded (step_code x.answer) x.count) x.whole) h)
 
-      pub stepping-back-some : {a : ℕ} → backed a (whole t c k) ≡ stepBack (whole s b j) → n ≡ a
-          → seen n left c k ≡ steppingBack block b j
-      unfolding steppingBack
+      pub stepping-back-some : {a : ℕ} → backed a (whole t c k) ≡ step_back (whole s b j) → n ≡ a
+          → seen n left c k ≡ stepping_back block b j
+      unfolding stepping_back
       stepping-back-some h m = rw (e, m, p, ← u) (ap (λ (x : Backed). shown x.number x.whole) h)
 
-    pub block-some : (entry : State → State) → t ≡ entry s → left ≡ blockAfter block entry
-    unfolding blockAfter
+    pub block-some : (entry : State → State) → t ≡ entry s → left ≡ block_after block entry
+    unfolding block_after
     block-some entry h = p ∙ rw (e, ← u) (ap packed h)
 
   pub number-some : {n : ℕ} (entry : State → ℕ) → n ≡ entry s → n ≡ number_in block entry

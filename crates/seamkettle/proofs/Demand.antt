@@ -10,40 +10,40 @@ use borrow.Author.Tests.{eqb-false, ne_eqb}
 use Rattle.base.specs.Told.{Told}
 use Rattle.map.proofs.KeptLaws.{Eight}
 use Rattle.machine.specs.Answers as answers
-use Rattle.journal.specs.States.{Whole, whole, validWhole}
+use Rattle.journal.specs.States.{Whole, whole, valid_whole}
 use Rattle.journal.specs.declared.State.{State}
-use Rattle.journal.specs.Step.{isAccepted, step}
-use Rattle.journal.specs.Back.{stepBack}
+use Rattle.journal.specs.Step.{is_accepted, step}
+use Rattle.journal.specs.Back.{step_back}
 use Rattle.journal.specs.Demand as walks
-use Rattle.journal.specs.Demand.{Move, Step, Back, afterMove, walk}
+use Rattle.journal.specs.Demand.{Move, Step, Back, after_move, walk}
 use Rattle.journal.proofs.Demand.{demand}
 use Rattle.journal.proofs.StepLaws.{every-answer, step-answer, step_kept, step_map, step-eight-kept, step-valid}
 use Rattle.journal.proofs.BackLaws.{back-kept, back-map, back-eight-kept, back-valid}
 use Rattle.journal.proofs.WalkLaws.{after-step, after-back, walk_none, walk_more, steps-none, steps-step, steps_back, backs-none, backs-step, backs-back}
-use Rattle.block.specs.Block.{isBlock, packed, unpacked}
+use Rattle.block.specs.Block.{is_block, packed, unpacked}
 use Rattle.block.proofs.Laws.{Shaped, packed-block, valid-back, pack-unpack, unpacked-shaped}
-use Rattle.numbers.specs.Answers.{stepCode}
-use Rattle.seamkettle.specs.Calls.{Seen, seen, shown, stepping, steppingBack}
+use Rattle.numbers.specs.Answers.{step_code}
+use Rattle.seamkettle.specs.Calls.{Seen, seen, shown, stepping, stepping_back}
 use Rattle.seamkettle.specs.Demand.{call, calls, accepts, steps, backs, machine_of, held_of, Starts, Demand, DemandFromC}
 
 -- the host's block is that of a valid state, with eight registers and tables of eight entries, and its other bytes are those beside it
 record Holds (v : Seen) (w : Whole) : Type 0 where
   shaped : Shaped w.state
-  valid : validWhole w ≡ true
+  valid : valid_whole w ≡ true
   block : v.block ≡ packed w.state
   bytes : v.bytes ≡ w.bytes
   journal : v.journal ≡ w.journal
 
 -- the number that a move answers
-abbrev moveNumber : Whole → Move → ℕ
-moveNumber w Step = stepCode (step w).answer
-moveNumber w Back = (stepBack w).number
+abbrev move_number : Whole → Move → ℕ
+move_number w Step = step_code (step w).answer
+move_number w Back = (step_back w).number
 
 -- that of a step says whether it is accepted
-step-accepts : (w : Whole) → accepts Step (stepCode (step w).answer) ≡ isAccepted (step w).answer
+step-accepts : (w : Whole) → accepts Step (step_code (step w).answer) ≡ is_accepted (step w).answer
 unfolding accepts
 step-accepts w =
-    every-answer w (λ (a : Told answers.Reply) (t : Bool). accepts Step (stepCode a) ≡ t) refl refl refl
+    every-answer w (λ (a : Told answers.Reply) (t : Bool). accepts Step (step_code a) ≡ t) refl refl refl
     (λ n l h. rw (ne_eqb n 0 (λ e. omega arith), ne_eqb n 256 (λ e. omega arith)))
 
 module _ {v : Seen} {w : Whole} (h : Holds v w) where
@@ -56,18 +56,18 @@ module _ {v : Seen} {w : Whole} (h : Holds v w) where
   same-held : held_of v ≡ w.state.held
   same-held = ap (λ (s : State). s.held) unpacks
 
-  block-again : isBlock v.block ≡ true
-  block-again = ap isBlock h.block ∙ packed-block w.state h.shaped
+  block-again : is_block v.block ≡ true
+  block-again = ap is_block h.block ∙ packed-block w.state h.shaped
 
   -- ---- one call is one move
 
-  called : (m : Move) → call v m ≡ shown (moveNumber w m) (afterMove w m)
-  unfolding call stepping steppingBack
+  called : (m : Move) → call v m ≡ shown (move_number w m) (after_move w m)
+  unfolding call stepping stepping_back
   called Step = rw (block-again, unpacks, h.bytes, h.journal, after-step w)
   called Back = rw (block-again, unpacks, h.bytes, h.journal, after-back w)
 
   -- which leaves a valid state
-  after-shaped : (m : Move) → Shaped (afterMove w m).state
+  after-shaped : (m : Move) → Shaped (after_move w m).state
   after-shaped Step =
       rw (after-step w)
       (record { registers = step-eight-kept w h.shaped.registers; tables = subst⁻¹ Eight (step_map w) h.shaped.tables })
@@ -75,11 +75,11 @@ module _ {v : Seen} {w : Whole} (h : Holds v w) where
       rw (after-back w)
       (record { registers = back-eight-kept w h.shaped.registers; tables = subst⁻¹ Eight (back-map w) h.shaped.tables })
 
-  after-valid : (m : Move) → validWhole (afterMove w m) ≡ true
+  after-valid : (m : Move) → valid_whole (after_move w m) ≡ true
   after-valid Step = rw (after-step w) (step-valid w h.shaped.registers h.valid)
   after-valid Back = rw (after-back w) (back-valid w h.valid)
 
-  holds_after : (m : Move) → Holds (call v m) (afterMove w m)
+  holds_after : (m : Move) → Holds (call v m) (after_move w m)
   holds_after m = record {
     shaped = after-shaped m;
     valid = after-valid m;
@@ -90,27 +90,27 @@ module _ {v : Seen} {w : Whole} (h : Holds v w) where
 
   -- ---- by its number it is accepted as the move is
 
-  called-number : (m : Move) → (call v m).number ≡ moveNumber w m
+  called-number : (m : Move) → (call v m).number ≡ move_number w m
   called-number m = ap (λ (x : Seen). x.number) (called m)
 
-  step_counts : accepts Step (call v Step).number ≡ isAccepted (step w).answer
+  step_counts : accepts Step (call v Step).number ≡ is_accepted (step w).answer
   step_counts = ap (accepts Step) (called-number Step) ∙ step-accepts w
 
-  back-counts : accepts Back (call v Back).number ≡ eqb (stepBack w).number 0
+  back-counts : accepts Back (call v Back).number ≡ eqb (step_back w).number 0
   unfolding accepts
   back-counts = ap (accepts Back) (called-number Back)
 
   -- a move that changes nothing changes no byte
-  kept-called : (m : Move) → afterMove w m ≡ w → call v m ≡ seen (call v m).number v.block v.bytes v.journal
-  kept-called m e = called m ∙ ap (shown (moveNumber w m)) e ∙ go (call v m).number (called-number m)
+  kept-called : (m : Move) → after_move w m ≡ w → call v m ≡ seen (call v m).number v.block v.bytes v.journal
+  kept-called m e = called m ∙ ap (shown (move_number w m)) e ∙ go (call v m).number (called-number m)
     where
-      go : (n : ℕ) → n ≡ moveNumber w m → shown (moveNumber w m) w ≡ seen n v.block v.bytes v.journal
+      go : (n : ℕ) → n ≡ move_number w m → shown (move_number w m) w ≡ seen n v.block v.bytes v.journal
       go n f = rw (f, h.block, h.bytes, h.journal)
 
   -- and one that is not accepted changes nothing
   unaccepted : (m : Move) → accepts m (call v m).number ≡ false → call v m ≡ seen (call v m).number v.block v.bytes v.journal
   unaccepted Step e = kept-called Step (after-step w ∙ step_kept w (sym step_counts ∙ e))
-  unaccepted Back e = kept-called Back (after-back w ∙ back-kept w (eqb-false (stepBack w).number 0 (sym back-counts ∙ e)))
+  unaccepted Back e = kept-called Back (after-back w ∙ back-kept w (eqb-false (step_back w).number 0 (sym back-counts ∙ e)))
 
 -- ---- the calls are the walk
 
@@ -146,7 +146,7 @@ module _ {v : Seen} {w : Whole} (h : Holds v w) (moves : List Move) (d : walks.D
         no_more = rw (steps-same moves h, backs-same moves h) d.no_more;
         reached = rw (steps-same moves h, backs-same moves h, same-machine h, same-machine k, k.bytes, h.bytes) d.reached;
         block = block-again k;
-        answers = rw (called-number k Step, same-machine k, k.bytes) (ap stepCode (step-answer x k.valid));
+        answers = rw (called-number k Step, same-machine k, k.bytes) (ap step_code (step-answer x k.valid));
         adds = λ e.
             rw (same-held (holds_after k Step), same-held k, after-step x, h.journal)
             (d.adds (sym (step_counts k) ∙ e));

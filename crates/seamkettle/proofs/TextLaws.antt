@@ -12,11 +12,11 @@ use Rattle.base.specs.Told.{Told, is, no}
 use Rattle.wordbytes.specs.Words.{bytes_of, even}
 use Rattle.wordbytes.proofs.Laws.{length-bytes, bytes-append, bytes-zeros, even-whole}
 use Rattle.asm.specs.Assemble.{Outcome, accepted, refused, outcome, words_of, filled, Report, counts, refusal, report}
-use Rattle.printer.specs.Print.{wordNext}
+use Rattle.printer.specs.Print.{word_next}
 use Rattle.printer.proofs.Laws.{Small, word_small}
 use Rattle.lister.specs.Listing.{listing, listed}
-use Rattle.numbers.specs.Answers.{listedNumber, assembledNumber, fitting}
-use Rattle.seamkettle.specs.Calls.{assembling, assembleNumber, assembledWords}
+use Rattle.numbers.specs.Answers.{listed_number, assembled_number, fitting}
+use Rattle.seamkettle.specs.Calls.{assembling, assemble_number, assembled_words}
 use Rattle.numbers.proofs.FittingLaws.{fit-counts, fit-refusal}
 use Rattle.asm.proofs.Rooms.{outcome-room, words-most, report-most}
 use Rattle.asm.proofs.FillLaws.{filled-parts, filled-exact, filled_more}
@@ -98,37 +98,37 @@ module _ (strict : Bool) (text words own : List ℕ) (n : ℕ) (e : n ≡ min (l
 
 module _ (strict : Bool) (text words : List ℕ) where
   module _ (e : even words ≡ false) where
-    pub odd_number : 31 ≡ assembleNumber strict text words
-    unfolding assembleNumber
+    pub odd_number : 31 ≡ assemble_number strict text words
+    unfolding assemble_number
     odd_number = rw e
 
-    pub odd-words : words ≡ assembledWords strict text words
-    unfolding assembledWords
+    pub odd-words : words ≡ assembled_words strict text words
+    unfolding assembled_words
     odd-words = rw e
 
   module _ (e : even words ≡ true) where
-    pub even-number : (p : Report) → p ≡ report (assembling strict text words) → assembledNumber p ≡ assembleNumber strict text words
-    unfolding assembleNumber
-    even-number p q = rw e (ap assembledNumber q)
+    pub even-number : (p : Report) → p ≡ report (assembling strict text words) → assembled_number p ≡ assemble_number strict text words
+    unfolding assemble_number
+    even-number p q = rw e (ap assembled_number q)
 
     pub even-words : (after : List ℕ) → after ≡ bytes_of (filled (length words / 2) (words_of (assembling strict text words)))
-        → after ≡ assembledWords strict text words
-    unfolding assembledWords
+        → after ≡ assembled_words strict text words
+    unfolding assembled_words
     even-words after q = rw e q
 
 -- ---- the listing and one word's text: their length fits
 
 pub list-fits : (text : List ℕ) (room : ℕ) (p : Told ℕ) → p ≡ listed text room → length (listing text) ≤ 1212432
-    → listedNumber p ≤ 18446744073709551615
+    → listed_number p ≤ 18446744073709551615
 list-fits text room p q h = go (leb (length (listing text)) room) refl
   where
-    go : (t : Bool) → leb (length (listing text)) room ≡ t → listedNumber p ≤ 18446744073709551615
+    go : (t : Bool) → leb (length (listing text)) room ≡ t → listed_number p ≤ 18446744073709551615
     go true e = rw (q ∙ listed-fits text room (leb-true (length (listing text)) room e)) (omega arith)
     go false e = rw (q ∙ listed-19 text room (leb-false (length (listing text)) room e)) (omega arith)
 
-pub word_fits : (w room : ℕ) (p : Told ℕ) → p ≡ wordNext w room → listedNumber p ≤ 18446744073709551615
-word_fits w room p q = rw q (go (wordNext w room) (word_small w room))
+pub word_fits : (w room : ℕ) (p : Told ℕ) → p ≡ word_next w room → listed_number p ≤ 18446744073709551615
+word_fits w room p q = rw q (go (word_next w room) (word_small w room))
   where
-    go : (t : Told ℕ) → Small t → listedNumber t ≤ 18446744073709551615
+    go : (t : Told ℕ) → Small t → listed_number t ≤ 18446744073709551615
     go (is n) h = omega (arith, h)
     go (no n) h = omega (arith, h)

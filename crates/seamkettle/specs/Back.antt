@@ -5,28 +5,28 @@
 -- sees alone: the numbers and the bytes. Proved in proofs/Back.antt.
 use Rattle.std.specs.Prelude.{ℕ, ◌/◌, ◌<◌, ◌≡◌, true, false, List, map, ◌⊎◌, length, take}
 use Rattle.wordbytes.specs.Words.{words_in, are_bytes}
-use Rattle.source.specs.Words.{instructionOf}
-use Rattle.source.specs.Source.{byteAnswer, byteBuffer}
+use Rattle.source.specs.Words.{instruction_of}
+use Rattle.source.specs.Source.{byte_answer, byte_buffer}
 use Rattle.source.specs.Promises.{references}
-use Rattle.numbers.specs.Answers.{sourcedNumber}
-use Rattle.seamkettle.specs.Calls.{assembleNumber, assembledWords}
-use Rattle.seamkettle.specs.Means.{code_of, openCounted}
+use Rattle.numbers.specs.Answers.{sourced_number}
+use Rattle.seamkettle.specs.Calls.{assemble_number, assembled_words}
+use Rattle.seamkettle.specs.Means.{code_of, open_counted}
 
 -- what the host takes from an answer of kettle_text with code 0: the header's kettle_bytes
-abbrev pub bytesCounted : ℕ → ℕ
-bytesCounted answer = answer / 65536
+abbrev pub bytes_counted : ℕ → ℕ
+bytes_counted answer = answer / 65536
 
 -- of a text, and of a buffer that its words go into
 pub record Same (text buffer words : List ℕ) : Type 0 where
-  pub code : code_of (assembleNumber false text buffer) ≡ 0
-  pub closed : openCounted (assembleNumber false text buffer) ≡ 0
-  pub bytes : assembledWords false text buffer ≡ words
+  pub code : code_of (assemble_number false text buffer) ≡ 0
+  pub closed : open_counted (assemble_number false text buffer) ≡ 0
+  pub bytes : assembled_words false text buffer ≡ words
 
 abbrev pub Full : List ℕ → List ℕ → List ℕ → Type 0
-Full text buffer words = (code_of (assembleNumber false text buffer) ≡ 28) × (512 < references (length (words_in words)) (map instructionOf (words_in words)))
+Full text buffer words = (code_of (assemble_number false text buffer) ≡ 28) × (512 < references (length (words_in words)) (map instruction_of (words_in words)))
 
 abbrev pub BackFromC : Type 0
 BackFromC = (words out buffer : List ℕ) → are_bytes words ≡ true → length buffer ≡ length words →
-    let answer = sourcedNumber (byteAnswer words (length out)) in
-    let text = take (bytesCounted answer) (byteBuffer words out) in
+    let answer = sourced_number (byte_answer words (length out)) in
+    let text = take (bytes_counted answer) (byte_buffer words out) in
     code_of answer ≡ 0 → Same text buffer words ⊎ Full text buffer words

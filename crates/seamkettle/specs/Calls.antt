@@ -7,11 +7,11 @@ use Rattle.journal.specs.States.{Whole, whole}
 use Rattle.journal.specs.declared.State.{State}
 use Rattle.journal.specs.Step.{step}
 use Rattle.journal.specs.Run.{run}
-use Rattle.journal.specs.Back.{stepBack}
+use Rattle.journal.specs.Back.{step_back}
 use Rattle.host.specs.Host as host
 use Rattle.asm.specs.Assemble.{Outcome, outcome, words_of, filled, report}
-use Rattle.block.specs.Block.{isBlock, packed, unpacked}
-use Rattle.numbers.specs.Answers.{coded, stepCode, countedNumber, assembledNumber}
+use Rattle.block.specs.Block.{is_block, packed, unpacked}
+use Rattle.numbers.specs.Answers.{coded, step_code, counted_number, assembled_number}
 
 -- ---- entries that may write memory, devices or journal: kettle_step, kettle_run, kettle_step_back, kettle_load
 
@@ -33,54 +33,54 @@ abbrev pub through : Bool → (Whole → Seen) → List ℕ → Lent → List �
 through good entry block b j = cond good (entry (whole (unpacked block) b j)) (seen 31 block b j)
 
 unfoldable pub stepping : List ℕ → Lent → List ℕ → Seen
-stepping block b j = through (isBlock block) (λ w. let a = step w in shown (stepCode a.answer) a.whole) block b j
+stepping block b j = through (is_block block) (λ w. let a = step w in shown (step_code a.answer) a.whole) block b j
 
 unfoldable pub running : ℕ → List ℕ → Lent → List ℕ → Seen
 running n block b j =
-    through (isBlock block) (λ w. let r = run n w in shown (coded (stepCode r.answer) r.count) r.whole) block b j
+    through (is_block block) (λ w. let r = run n w in shown (coded (step_code r.answer) r.count) r.whole) block b j
 
-unfoldable pub steppingBack : List ℕ → Lent → List ℕ → Seen
-steppingBack block b j = through (isBlock block) (λ w. let a = stepBack w in shown a.number a.whole) block b j
+unfoldable pub stepping_back : List ℕ → Lent → List ℕ → Seen
+stepping_back block b j = through (is_block block) (λ w. let a = step_back w in shown a.number a.whole) block b j
 
 -- a load, all there is after it
 abbrev pub loaded : Whole → List ℕ → Whole
 loaded w program =
     let s = w.state in
-    whole (host.loadState s w.bytes w.journal program) (host.loadBytes s w.bytes w.journal program) w.journal
+    whole (host.load_state s w.bytes w.journal program) (host.load_bytes s w.bytes w.journal program) w.journal
 
 unfoldable pub loading : List ℕ → List ℕ → Lent → List ℕ → Seen
 loading words block b j =
-    through (isBlock block && even words)
-    (λ w. shown (host.loadNumber w.state w.bytes w.journal (words_in words)) (loaded w (words_in words))) block b j
+    through (is_block block && even words)
+    (λ w. shown (host.load_number w.state w.bytes w.journal (words_in words)) (loaded w (words_in words))) block b j
 
 -- ---- entries that write the block alone: kettle_set_register, kettle_protect, kettle_device, kettle_forget, each over its definition of a state. What
 -- a refusal leaves as it was is packed as it was (proofs/Refused.antt)
 
 unfoldable pub number_in : List ℕ → (State → ℕ) → ℕ
-number_in block entry = cond (isBlock block) (entry (unpacked block)) 31
+number_in block entry = cond (is_block block) (entry (unpacked block)) 31
 
-unfoldable pub blockAfter : List ℕ → (State → State) → List ℕ
-blockAfter block entry = cond (isBlock block) (packed (entry (unpacked block))) block
+unfoldable pub block_after : List ℕ → (State → State) → List ℕ
+block_after block entry = cond (is_block block) (packed (entry (unpacked block))) block
 
 -- ---- kettle_read: reading memory out into a buffer
 
-unfoldable pub readNumber : List ℕ → Lent → List ℕ → ℕ → ℕ → ℕ → ℕ
-readNumber block b j start size room = number_in block (λ s. countedNumber (host.readOut s b j start size room))
+unfoldable pub read_number : List ℕ → Lent → List ℕ → ℕ → ℕ → ℕ → ℕ
+read_number block b j start size room = number_in block (λ s. counted_number (host.read_out s b j start size room))
 
-unfoldable pub readBuffer : List ℕ → Lent → List ℕ → ℕ → ℕ → List ℕ → List ℕ
-readBuffer block b j start size buffer = cond (isBlock block) (host.readOutBuffer (unpacked block) b j start size buffer) buffer
+unfoldable pub read_buffer : List ℕ → Lent → List ℕ → ℕ → ℕ → List ℕ → List ℕ
+read_buffer block b j start size buffer = cond (is_block block) (host.read_out_buffer (unpacked block) b j start size buffer) buffer
 
 -- ---- kettle_assemble: with 1,024 label entries of its own, into a buffer for half as many words as it has bytes
 
 unfoldable pub assembling : Bool → List ℕ → List ℕ → Outcome
 assembling strict text words = outcome strict text (length words / 2) 1024
 
-unfoldable pub assembleNumber : Bool → List ℕ → List ℕ → ℕ
-assembleNumber strict text words = cond (even words) (assembledNumber (report (assembling strict text words))) 31
+unfoldable pub assemble_number : Bool → List ℕ → List ℕ → ℕ
+assemble_number strict text words = cond (even words) (assembled_number (report (assembling strict text words))) 31
 
 -- 31 zeroes nothing
-unfoldable pub assembledWords : Bool → List ℕ → List ℕ → List ℕ
-assembledWords strict text words =
+unfoldable pub assembled_words : Bool → List ℕ → List ℕ → List ℕ
+assembled_words strict text words =
     cond (even words) (bytes_of (filled (length words / 2) (words_of (assembling strict text words)))) words
 
 -- ---- kettle_version: 0.4.0, with two decimal digits each for minor and patch

@@ -11,16 +11,16 @@ use Rattle.machine.specs.declared.Machine.{Machine}
 use Rattle.records.specs.Slots.{room}
 use Rattle.journal.specs.States as journal
 use Rattle.journal.specs.Demand.{Move, Step, Back, at, alone}
-use Rattle.block.specs.Block.{isBlock, unpacked}
-use Rattle.numbers.specs.Answers.{stepCode}
-use Rattle.seamkettle.specs.Calls.{Seen, seen, stepping, steppingBack}
+use Rattle.block.specs.Block.{is_block, unpacked}
+use Rattle.numbers.specs.Answers.{step_code}
+use Rattle.seamkettle.specs.Calls.{Seen, seen, stepping, stepping_back}
 
 -- ---- step and step back in any order
 
 -- one call, on what the last one left
 unfoldable pub call : Seen → Move → Seen
 call v Step = stepping v.block v.bytes v.journal
-call v Back = steppingBack v.block v.bytes v.journal
+call v Back = stepping_back v.block v.bytes v.journal
 
 -- and a list of them, from the first one on
 unfoldable pub calls : Seen → List Move → Seen
@@ -61,7 +61,7 @@ held_of v = (unpacked v.block).held
 -- a block, of a valid state and an empty journal
 pub record Starts (v : Seen) : Type 0 where
   pub bytes : are_bytes v.block ≡ true
-  pub block : isBlock v.block ≡ true
+  pub block : is_block v.block ≡ true
   pub valid : journal.valid (unpacked v.block) v.bytes.dev v.journal ≡ true
   pub empty : held_of v ≡ 0
 
@@ -71,8 +71,8 @@ pub record Demand (v : Seen) (moves : List Move) (u : Seen) : Type 0 where
   pub no_more : backs v moves ≤ steps v moves
   pub reached : alone (steps v moves - backs v moves) (machine_of v) v.bytes ≡ at (machine_of u) u.bytes
   -- the block is one again, and a step's number says what demand 2's step answers there
-  pub block : isBlock u.block ≡ true
-  pub answers : (call u Step).number ≡ stepCode (machine.step (machine_of u) u.bytes).answer
+  pub block : is_block u.block ≡ true
+  pub answers : (call u Step).number ≡ step_code (machine.step (machine_of u) u.bytes).answer
   -- each accepted step adds a record, up to the journal's room
   pub adds : accepts Step (call u Step).number ≡ true → held_of (call u Step) ≡ min (held_of u + 1) (room v.journal)
   -- each step-back spends one

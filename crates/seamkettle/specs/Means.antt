@@ -6,24 +6,24 @@
 use Rattle.std.specs.Prelude.{ℕ, ◌/◌, ◌%◌, ◌≡◌, true, List, take}
 use Rattle.wordbytes.specs.Words.{words_in}
 use Rattle.asm.specs.Strict.{Means}
-use Rattle.seamkettle.specs.Calls.{assembleNumber, assembledWords}
+use Rattle.seamkettle.specs.Calls.{assemble_number, assembled_words}
 
 -- ---- what the host takes from an answer: the header's kettle_code_of, kettle_words and kettle_open_references
 
 abbrev pub code_of : ℕ → ℕ
 code_of answer = answer % 65536
 
-abbrev pub wordsCounted : ℕ → ℕ
-wordsCounted answer = answer / 65536 % 65536
+abbrev pub words_counted : ℕ → ℕ
+words_counted answer = answer / 65536 % 65536
 
-abbrev pub openCounted : ℕ → ℕ
-openCounted answer = answer / 4294967296 % 65536
+abbrev pub open_counted : ℕ → ℕ
+open_counted answer = answer / 4294967296 % 65536
 
 -- ---- the promise
 
 -- of an answer, and of the bytes in the host's buffer with it
 abbrev pub Said : List ℕ → ℕ → List ℕ → Type 0
-Said text answer bytes = code_of answer ≡ 0 → Means text (take (wordsCounted answer) (words_in bytes)) (openCounted answer)
+Said text answer bytes = code_of answer ≡ 0 → Means text (take (words_counted answer) (words_in bytes)) (open_counted answer)
 
 abbrev pub MeansFromC : Type 0
-MeansFromC = (text words : List ℕ) → Said text (assembleNumber true text words) (assembledWords true text words)
+MeansFromC = (text words : List ℕ) → Said text (assemble_number true text words) (assembled_words true text words)

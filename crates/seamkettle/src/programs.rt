@@ -1,10 +1,10 @@
 // A program into memory, and memory out of it.
 ghost use Rattle.std.specs.Prelude.{◌≡◌, length};
-ghost use Rattle.base.specs.Numbers.{answerNumber};
+ghost use Rattle.base.specs.Numbers.{answer_number};
 ghost use Rattle.wordbytes.specs.Words.{words_in};
 ghost use Rattle.memory.specs.Bytes.{lent};
-ghost use Rattle.host.specs.Host.{loadNumber, loadState, loadBytes};
-ghost use Rattle.seamkettle.specs.Calls.{seen, loading, readNumber, readBuffer};
+ghost use Rattle.host.specs.Host.{load_number, load_state, load_bytes};
+ghost use Rattle.seamkettle.specs.Calls.{seen, loading, read_number, read_buffer};
 
 use block::{is_block, pack, unpack};
 use journal::{Changed, State};
@@ -22,9 +22,9 @@ fn load_words(
     program: &mut [u16],
 ) -> Changed
     requires { length program.old ≡ 32769 }
-    ensures answer_value { answerNumber result.answer ≡ loadNumber s (lent memory.old devices.old) journal.now (words_in bytes.now) }
-    ensures state_value { result.state ≡ loadState s (lent memory.old devices.old) journal.now (words_in bytes.now) }
-    ensures devices_after { lent memory.new devices.new ≡ loadBytes s (lent memory.old devices.old) journal.now (words_in bytes.now) }
+    ensures answer_value { answer_number result.answer ≡ load_number s (lent memory.old devices.old) journal.now (words_in bytes.now) }
+    ensures state_value { result.state ≡ load_state s (lent memory.old devices.old) journal.now (words_in bytes.now) }
+    ensures devices_after { lent memory.new devices.new ≡ load_bytes s (lent memory.old devices.old) journal.now (words_in bytes.now) }
 {
     let n = bytes.len() / 2;
     if 32769 < n {
@@ -71,8 +71,8 @@ pub extern "C" fn kettle_read(
     size: usize,
     buffer: &mut [u8],
 ) -> u64
-    ensures value { result ≡ readNumber block.now (lent memory.now devices.now) journal.now start size (length buffer.old) }
-    ensures buffer_after { buffer.new ≡ readBuffer block.now (lent memory.now devices.now) journal.now start size buffer.old }
+    ensures value { result ≡ read_number block.now (lent memory.now devices.now) journal.now start size (length buffer.old) }
+    ensures buffer_after { buffer.new ≡ read_buffer block.now (lent memory.now devices.now) journal.now start size buffer.old }
 {
     if !is_block(block) {
         return bad_block();

@@ -1,8 +1,8 @@
 // Step, run, step back, forget.
 ghost use Rattle.std.specs.Prelude.{◌≡◌};
 ghost use Rattle.memory.specs.Bytes.{lent};
-ghost use Rattle.journal.specs.Back.{forgetNumber, forgotten};
-ghost use Rattle.seamkettle.specs.Calls.{seen, stepping, running, steppingBack, number_in, blockAfter};
+ghost use Rattle.journal.specs.Back.{forget_number, forgotten};
+ghost use Rattle.seamkettle.specs.Calls.{seen, stepping, running, stepping_back, number_in, block_after};
 
 use block::{is_block, pack, unpack};
 use numbers::{bad_block, of_answer, of_run, of_step};
@@ -58,7 +58,7 @@ pub extern "C" fn kettle_step_back(
     devices: &mut [u8],
     journal: &[u8],
 ) -> u64
-    ensures { seen result block.new (lent memory.new devices.new) journal.now ≡ steppingBack block.old (lent memory.old devices.old) journal.now }
+    ensures { seen result block.new (lent memory.new devices.new) journal.now ≡ stepping_back block.old (lent memory.old devices.old) journal.now }
 {
     if !is_block(block) {
         return bad_block();
@@ -74,8 +74,8 @@ pub extern "C" fn kettle_step_back(
 // Empties the journal: 31, 1. Its bytes stay.
 #[unsafe(no_mangle)]
 pub extern "C" fn kettle_forget(block: &mut [u8], devices: &[u8], journal: &[u8]) -> u64
-    ensures value { result ≡ number_in block.old (λ s. forgetNumber s devices.now journal.now) }
-    ensures block_after { block.new ≡ blockAfter block.old (λ s. forgotten s devices.now journal.now) }
+    ensures value { result ≡ number_in block.old (λ s. forget_number s devices.now journal.now) }
+    ensures block_after { block.new ≡ block_after block.old (λ s. forgotten s devices.now journal.now) }
 {
     if !is_block(block) {
         return bad_block();

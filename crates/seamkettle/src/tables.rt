@@ -1,7 +1,7 @@
 // What a host sets: a register, a protected region, a device. Memory is not looked at.
 ghost use Rattle.std.specs.Prelude.{◌≡◌};
-ghost use Rattle.host.specs.Host.{setNumber, setState, protectNumber, protectState, registerNumber, registerState};
-ghost use Rattle.seamkettle.specs.Calls.{number_in, blockAfter};
+ghost use Rattle.host.specs.Host.{set_number, set_state, protect_number, protect_state, register_number, register_state};
+ghost use Rattle.seamkettle.specs.Calls.{number_in, block_after};
 
 use block::{is_block, pack, unpack};
 use numbers::{bad_block, narrow_len, narrow_start, of_answer};
@@ -15,8 +15,8 @@ pub extern "C" fn kettle_set_register(
     number: usize,
     value: u16,
 ) -> u64
-    ensures value { result ≡ number_in block.old (λ s. setNumber s devices.now journal.now number) }
-    ensures block_after { block.new ≡ blockAfter block.old (λ s. setState s devices.now journal.now number value) }
+    ensures value { result ≡ number_in block.old (λ s. set_number s devices.now journal.now number) }
+    ensures block_after { block.new ≡ block_after block.old (λ s. set_state s devices.now journal.now number value) }
 {
     if !is_block(block) {
         return bad_block();
@@ -38,8 +38,8 @@ pub extern "C" fn kettle_protect(
     start: usize,
     len: usize,
 ) -> u64
-    ensures value { result ≡ number_in block.old (λ s. protectNumber s devices.now journal.now start len) }
-    ensures block_after { block.new ≡ blockAfter block.old (λ s. protectState s devices.now journal.now start len) }
+    ensures value { result ≡ number_in block.old (λ s. protect_number s devices.now journal.now start len) }
+    ensures block_after { block.new ≡ block_after block.old (λ s. protect_state s devices.now journal.now start len) }
 {
     if !is_block(block) {
         return bad_block();
@@ -63,8 +63,8 @@ pub extern "C" fn kettle_device(
     start: usize,
     size: usize,
 ) -> u64
-    ensures value { result ≡ number_in block.old (λ s. registerNumber s devices.now journal.now start size) }
-    ensures block_after { block.new ≡ blockAfter block.old (λ s. registerState s devices.now journal.now start size) }
+    ensures value { result ≡ number_in block.old (λ s. register_number s devices.now journal.now start size) }
+    ensures block_after { block.new ≡ block_after block.old (λ s. register_state s devices.now journal.now start size) }
 {
     if !is_block(block) {
         return bad_block();

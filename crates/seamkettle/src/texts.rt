@@ -2,11 +2,11 @@
 ghost use Rattle.std.specs.Prelude.{◌≡◌, true, not, ◌/◌, min, eqb, length, take};
 ghost use Rattle.wordbytes.specs.Words.{bytes_of, even};
 ghost use Rattle.asm.specs.Assemble.{words_of, filled, report, reported};
-ghost use Rattle.printer.specs.Print.{wordNext, wordBuffer};
-ghost use Rattle.lister.specs.Listing.{listed, listedBuffer};
-ghost use Rattle.source.specs.Source.{byteAnswer, byteBuffer};
-ghost use Rattle.numbers.specs.Answers.{listedNumber, sourcedNumber, fitting};
-ghost use Rattle.seamkettle.specs.Calls.{assembling, assembleNumber, assembledWords};
+ghost use Rattle.printer.specs.Print.{word_next, word_buffer};
+ghost use Rattle.lister.specs.Listing.{listed, listed_buffer};
+ghost use Rattle.source.specs.Source.{byte_answer, byte_buffer};
+ghost use Rattle.numbers.specs.Answers.{listed_number, sourced_number, fitting};
+ghost use Rattle.seamkettle.specs.Calls.{assembling, assemble_number, assembled_words};
 
 use asm::{Assembled, Rules};
 use assembler::assemble_words;
@@ -56,8 +56,8 @@ fn assemble_bytes(rules: Rules, text: &[u8], words: &mut [u8], own: &mut [u16]) 
 // labels there are. Words that are not used are zero, all of them on a refusal but 31.
 #[unsafe(no_mangle)]
 pub extern "C" fn kettle_assemble(text: &[u8], strict: u8, words: &mut [u8]) -> u64
-    ensures value { result ≡ assembleNumber (not (eqb strict 0)) text.now words.old }
-    ensures words_after { words.new ≡ assembledWords (not (eqb strict 0)) text.now words.old }
+    ensures value { result ≡ assemble_number (not (eqb strict 0)) text.now words.old }
+    ensures words_after { words.new ≡ assembled_words (not (eqb strict 0)) text.now words.old }
 {
     if words.len() % 2 != 0 {
         return bad_block();
@@ -73,8 +73,8 @@ pub extern "C" fn kettle_assemble(text: &[u8], strict: u8, words: &mut [u8]) -> 
 // The listing of a text: 19, or how long it is.
 #[unsafe(no_mangle)]
 pub extern "C" fn kettle_list(text: &[u8], out: &mut [u8]) -> u64
-    ensures value { result ≡ listedNumber (listed text.now (length out.old)) }
-    ensures out_after { out.new ≡ listedBuffer text.now out.old }
+    ensures value { result ≡ listed_number (listed text.now (length out.old)) }
+    ensures out_after { out.new ≡ listed_buffer text.now out.old }
 {
     of_list(lister::list(text, out))
 }
@@ -82,8 +82,8 @@ pub extern "C" fn kettle_list(text: &[u8], out: &mut [u8]) -> u64
 // What a word says, as the listing has it: 4 to 6, 19, or how long it is.
 #[unsafe(no_mangle)]
 pub extern "C" fn kettle_print(word: u16, out: &mut [u8]) -> u64
-    ensures value { result ≡ listedNumber (wordNext word (length out.old)) }
-    ensures out_after { out.new ≡ wordBuffer word out.old }
+    ensures value { result ≡ listed_number (word_next word (length out.old)) }
+    ensures out_after { out.new ≡ word_buffer word out.old }
 {
     of_list(print_word(word, out))
 }
@@ -92,8 +92,8 @@ pub extern "C" fn kettle_print(word: u16, out: &mut [u8]) -> u64
 // gives, 19, or how long it is.
 #[unsafe(no_mangle)]
 pub extern "C" fn kettle_text(words: &[u8], out: &mut [u8]) -> u64
-    ensures value { result ≡ sourcedNumber (byteAnswer words.now (length out.old)) }
-    ensures out_after { out.new ≡ byteBuffer words.now out.old }
+    ensures value { result ≡ sourced_number (byte_answer words.now (length out.old)) }
+    ensures out_after { out.new ≡ byte_buffer words.now out.old }
 {
     of_text(text_of_bytes(words, out))
 }

@@ -5,7 +5,7 @@ use Rattle.base.specs.Numbers.{number_of}
 use Rattle.base.specs.Told.{Told, is, no}
 use Rattle.instruction.specs.declared.Instruction.{Instruction}
 use Rattle.text.specs.Tokens.{tokens}
-use Rattle.text.specs.Lines.{foreignLine}
+use Rattle.text.specs.Lines.{foreign_line}
 use Rattle.parser.specs.declared.Reference.{Reference}
 use Rattle.parser.specs.References.{resolved}
 use Rattle.parser.specs.Answers.{Meaning, says, refers}
@@ -17,9 +17,9 @@ use Rattle.labels.specs.Labels.{find}
 use Rattle.single.specs.declared.LineAnswer.{LineAnswer}
 use Rattle.single.specs.declared.LineAnswer.TheVariants.{Is, Refused}
 
-abbrev pub toldLine : LineAnswer → Told Instruction
-toldLine (Is i) = is i
-toldLine (Refused r) = no (number_of r)
+abbrev pub told_line : LineAnswer → Told Instruction
+told_line (Is i) = is i
+told_line (Refused r) = no (number_of r)
 
 abbrev pub known : Reference → Found → Told Instruction
 known r (At i a) = is (resolved r a)
@@ -31,4 +31,4 @@ meant text labels (is (refers r name)) = known r (find text name labels)
 meant text labels (no n) = no n
 
 unfoldable pub single : List ℕ → List ℕ → List Label → Told Instruction
-single line text labels = cond (eqb (foreignLine 1 line) 0) (meant text labels (parse (tokens line))) (no 26)
+single line text labels = cond (eqb (foreign_line 1 line) 0) (meant text labels (parse (tokens line))) (no 26)

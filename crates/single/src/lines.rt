@@ -1,9 +1,9 @@
 // What a line says, where its label, if it names one, is known already.
 ghost use Rattle.std.specs.Prelude.{◌≡◌, List, ℕ};
-ghost use Rattle.text.specs.Tokens.{tokenAt};
+ghost use Rattle.text.specs.Tokens.{token_at};
 ghost use Rattle.labels.specs.declared.Label.{Label};
 ghost use Rattle.labels.specs.Labels.{find};
-ghost use Rattle.single.specs.Single.{toldLine, known, single};
+ghost use Rattle.single.specs.Single.{told_line, known, single};
 
 use crate::LineAnswer;
 use base::Refusal;
@@ -15,7 +15,7 @@ use text::token;
 
 // A reference to a name.
 fn referred(reference: Reference, f: Found) -> LineAnswer
-    ensures { toldLine result ≡ known reference f }
+    ensures { told_line result ≡ known reference f }
 {
     match f {
         Found::At(_, a) => LineAnswer::Is(resolved(reference, a)),
@@ -25,7 +25,7 @@ fn referred(reference: Reference, f: Found) -> LineAnswer
 
 // The line, where f was found of its second token.
 fn parse_known(line: &[u8], f: Found) -> LineAnswer
-    ensures { (text : List ℕ) → (labels : List Label) → f ≡ find text (tokenAt line.now 1) labels → toldLine result ≡ single line.now text labels }
+    ensures { (text : List ℕ) → (labels : List Label) → f ≡ find text (token_at line.now 1) labels → told_line result ≡ single line.now text labels }
 {
     if foreign_line(line) != 0 {
         return LineAnswer::Refused(Refusal::NotAscii);
@@ -40,7 +40,7 @@ fn parse_known(line: &[u8], f: Found) -> LineAnswer
 
 // The first of equal names in the table counts, and an entry running past the text names nothing.
 pub fn parse_assembly_line(line: &[u8], text: &[u8], table: &[Label]) -> LineAnswer
-    ensures { toldLine result ≡ single line.now text.now table.now }
+    ensures { told_line result ≡ single line.now text.now table.now }
 {
     parse_known(line, find(text, table, table.len(), token(line, 1)))
 }

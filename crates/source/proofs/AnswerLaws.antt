@@ -12,66 +12,66 @@ use Rattle.printer.specs.Print.{placed}
 use Rattle.pen.specs.Pen.{pen, wrote}
 use Rattle.pen.proofs.PenLaws.{whole_length, whole-placed}
 use Rattle.text.specs.Lines.{ended}
-use Rattle.source.specs.Words.{instructionOf, lowest}
-use Rattle.source.specs.Source.{usedBy, lines_of, source_of, sourceText, sourced, Answer, length-of, refusal, answer, answered, sourceBuffer}
+use Rattle.source.specs.Words.{instruction_of, lowest}
+use Rattle.source.specs.Source.{used_by, lines_of, source_of, source_text, sourced, Answer, length_of, refusal, answer, answered, source_buffer}
 use Rattle.source.specs.declared.Written.{Written}
 use Rattle.source.specs.declared.Written.TheVariants.{Next, Refused}
-use Rattle.source.specs.Marks.{marked, usedIn}
+use Rattle.source.specs.Marks.{marked, used_in}
 use Rattle.source.proofs.MarkLaws.{words-fit, lines-marked}
 use Rattle.source.proofs.Longest.{text-most}
 
 -- an answer, and the buffer with it
 abbrev Ends : List ℕ → List ℕ → Answer → List ℕ → Type 0
-Ends ws out a after = (a ≡ answer ws (length out)) × (after ≡ sourceBuffer ws out)
+Ends ws out a after = (a ≡ answer ws (length out)) × (after ≡ source_buffer ws out)
 
 module _ (ws out : List ℕ) where
   pub ends-16 : 32767 < length ws → Ends ws out (refusal 16 0) out
-  unfolding answer sourceBuffer sourced
+  unfolding answer source_buffer sourced
   ends-16 h = rw (lt-ltb 32767 (length ws) h) (refl, refl)
 
   module _ (most : length ws ≤ 32767) where
     pub ends-33 : {k : ℕ} → k ≡ lowest ws → k < length ws → Ends ws out (refusal 33 k) out
-    unfolding answer sourceBuffer sourced
+    unfolding answer source_buffer sourced
     ends-33 e h = let l : lowest ws < length ws = omega arith in rw (e, le-ltb 32767 (length ws) most, lt-ltb (lowest ws) (length ws) l) (refl, refl)
 
     module _ (all : length ws ≤ lowest ws) where
-      ends-19 : length out < length (sourceText ws) → Ends ws out (refusal 19 0) out
-      unfolding answer sourceBuffer sourced
-      ends-19 h = rw (le-ltb 32767 (length ws) most, le-ltb (lowest ws) (length ws) all, lt-ltb (length out) (length (sourceText ws)) h) (refl, refl)
+      ends-19 : length out < length (source_text ws) → Ends ws out (refusal 19 0) out
+      unfolding answer source_buffer sourced
+      ends-19 h = rw (le-ltb 32767 (length ws) most, le-ltb (lowest ws) (length ws) all, lt-ltb (length out) (length (source_text ws)) h) (refl, refl)
 
-      ends-text : length (sourceText ws) ≤ length out → Ends ws out (length-of (length (sourceText ws))) (placed (sourceText ws) out 0)
-      unfolding answer sourceBuffer sourced
-      ends-text h = rw (le-ltb 32767 (length ws) most, le-ltb (lowest ws) (length ws) all, le-ltb (length out) (length (sourceText ws)) h) (refl, refl)
+      ends-text : length (source_text ws) ≤ length out → Ends ws out (length_of (length (source_text ws))) (placed (source_text ws) out 0)
+      unfolding answer source_buffer sourced
+      ends-text h = rw (le-ltb 32767 (length ws) most, le-ltb (lowest ws) (length ws) all, le-ltb (length out) (length (source_text ws)) h) (refl, refl)
 
       -- the lines by the marks are the text
-      module _ (used : List ℕ) (m : used ≡ marked (map instructionOf ws) (replicate 1024 0)) where
+      module _ (used : List ℕ) (m : used ≡ marked (map instruction_of ws) (replicate 1024 0)) where
         abbrev pub written : List ℕ
-        written = ended (lines_of (usedIn used) (length ws) 0 (map instructionOf ws))
+        written = ended (lines_of (used_in used) (length ws) 0 (map instruction_of ws))
 
-        text-written : written ≡ sourceText ws
+        text-written : written ≡ source_text ws
         unfolding source_of
         text-written =
-            let xs = map instructionOf ws in
-            ap (λ (u : List ℕ). ended (lines_of (usedIn u) (length ws) 0 xs)) m
+            let xs = map instruction_of ws in
+            ap (λ (u : List ℕ). ended (lines_of (used_in u) (length ws) 0 xs)) m
             ∙ ap ended (lines-marked xs (words-fit ws) (length ws))
-            ∙ ap (λ (n : ℕ). ended (lines_of (usedBy xs) n 0 xs)) (sym (length-map ws instructionOf))
+            ∙ ap (λ (n : ℕ). ended (lines_of (used_by xs) n 0 xs)) (sym (length-map ws instruction_of))
 
-        counts : length (sourceText ws) ≤ 18446744073709551615
+        counts : length (source_text ws) ≤ 18446744073709551615
         counts = omega (arith, text-most ws most)
 
         -- scratch is what was written into first, and n what that counted
         module _ (scratch : List ℕ) {after : List ℕ} {n : ℕ} (e : pen after n ≡ wrote (pen scratch 0) written) where
-          size : n ≡ length (sourceText ws)
-          size = whole_length (sourceText ws) scratch counts (e ∙ ap (wrote (pen scratch 0)) text-written)
+          size : n ≡ length (source_text ws)
+          size = whole_length (source_text ws) scratch counts (e ∙ ap (wrote (pen scratch 0)) text-written)
 
           pub no_room : length out < n → Ends ws out (refusal 19 0) out
           no_room h = ends-19 (omega (arith, h, size))
 
-          pub room : {left : List ℕ} {p : ℕ} → n ≤ length out → pen left p ≡ wrote (pen out 0) written → Ends ws out (length-of n) left
+          pub room : {left : List ℕ} {p : ℕ} → n ≤ length out → pen left p ≡ wrote (pen out 0) written → Ends ws out (length_of n) left
           room {left} {p} h f =
-              let g : length (sourceText ws) ≤ length out = omega (arith, h, size) in
+              let g : length (source_text ws) ≤ length out = omega (arith, h, size) in
               let e = ends-text g in
-              (ap length-of size ∙ e.0, whole-placed (sourceText ws) out counts (f ∙ ap (wrote (pen out 0)) text-written) g ∙ e.1)
+              (ap length_of size ∙ e.0, whole-placed (source_text ws) out counts (f ∙ ap (wrote (pen out 0)) text-written) g ∙ e.1)
 
 -- ---- two answers that are told alike are one: a refusal by its number
 

@@ -15,58 +15,58 @@ use Rattle.base.proofs.Tests.{clash, both}
 use Rattle.instruction.specs.declared.Edition.TheVariants.{Second}
 use Rattle.instruction.specs.declared.Instruction.{Instruction}
 use Rattle.instruction.specs.declared.Instruction.TheVariants.{Noop}
-use Rattle.instruction.specs.Editions.{decodeIn}
+use Rattle.instruction.specs.Editions.{decode_in}
 use Rattle.instruction.specs.Encode.{encode}
 use Rattle.instruction.specs.Fits.{fits, sayable}
 use Rattle.instruction.proofs.EditionLaws.{second_fits}
-use Rattle.source.specs.Words.{orNoop, instructionOf, isSaid, hasText, lowest}
+use Rattle.source.specs.Words.{or_noop, instruction_of, is_said, has_text, lowest}
 
-module _ (w : ℕ) (i : Instruction) (e : decodeIn Second w ≡ is i) where
-  pub says : i ≡ instructionOf w
-  unfolding instructionOf
+module _ (w : ℕ) (i : Instruction) (e : decode_in Second w ≡ is i) where
+  pub says : i ≡ instruction_of w
+  unfolding instruction_of
   says = rw e
 
-  pub said : isSaid w (is i) ≡ hasText w
-  unfolding hasText
+  pub said : is_said w (is i) ≡ has_text w
+  unfolding has_text
   said = rw e
 
-module _ (w n : ℕ) (e : decodeIn Second w ≡ no n) where
-  pub says_none : Noop ≡ instructionOf w
-  unfolding instructionOf
+module _ (w n : ℕ) (e : decode_in Second w ≡ no n) where
+  pub says_none : Noop ≡ instruction_of w
+  unfolding instruction_of
   says_none = rw e
 
-  pub none_said : false ≡ hasText w
-  unfolding hasText
+  pub none_said : false ≡ has_text w
+  unfolding has_text
   none_said = rw e
 
 -- what is written for a word fits
-pub instruction-fits : (w : ℕ) → fits (instructionOf w) ≡ true
-unfolding instructionOf
-instruction-fits w = go (decodeIn Second w) refl
+pub instruction-fits : (w : ℕ) → fits (instruction_of w) ≡ true
+unfolding instruction_of
+instruction-fits w = go (decode_in Second w) refl
   where
-    go : (d : Told Instruction) → decodeIn Second w ≡ d → fits (orNoop d) ≡ true
+    go : (d : Told Instruction) → decode_in Second w ≡ d → fits (or_noop d) ≡ true
     go (is i) e = second_fits w i e
     go (no n) e = refl
 
 -- and where the word has a text, it is the very word of that, and a line says that
-pub text_says : (w : ℕ) → hasText w ≡ true → (encode (instructionOf w) ≡ w) × (sayable (instructionOf w) ≡ true)
-unfolding hasText instructionOf
-text_says w h = go (decodeIn Second w) h
+pub text_says : (w : ℕ) → has_text w ≡ true → (encode (instruction_of w) ≡ w) × (sayable (instruction_of w) ≡ true)
+unfolding has_text instruction_of
+text_says w h = go (decode_in Second w) h
   where
-    go : (d : Told Instruction) → isSaid w d ≡ true → (encode (orNoop d) ≡ w) × (sayable (orNoop d) ≡ true)
+    go : (d : Told Instruction) → is_said w d ≡ true → (encode (or_noop d) ≡ w) × (sayable (or_noop d) ≡ true)
     go (is i) e = let t = both (eqb (encode i) w) (sayable i) e in (eqb-true (encode i) w t.0, t.1)
     go (no n) e = clash e
 
 -- ---- the walk: what is left to walk makes the whole
 
 module _ (ws : List ℕ) (i : ℕ) (q : lowest ws ≡ i + lowest (drop i ws)) where
-  pub lowest-here : i < length ws → hasText (get_or ws i 0) ≡ false → i ≡ lowest ws
+  pub lowest-here : i < length ws → has_text (get_or ws i 0) ≡ false → i ≡ lowest ws
   lowest-here h e = omega (arith, q, here)
     where
       here : lowest (drop i ws) ≡ 0
       here = rw (drop-cons ws i 0 h, e)
 
-  pub lowest-next : i < length ws → hasText (get_or ws i 0) ≡ true → lowest ws ≡ i + 1 + lowest (drop (i + 1) ws)
+  pub lowest-next : i < length ws → has_text (get_or ws i 0) ≡ true → lowest ws ≡ i + 1 + lowest (drop (i + 1) ws)
   lowest-next h e = omega (arith, q, next)
     where
       next : lowest (drop i ws) ≡ suc (lowest (drop (i + 1) ws))

@@ -23,12 +23,12 @@ use Rattle.asm.specs.Reading.{Item, said, read}
 use Rattle.asm.specs.Reading as Reading
 use Rattle.asm.specs.Work.{Task, task}
 use Rattle.asm.specs.Assemble.{Outcome, accepted, refused, assemble, outcome}
-use Rattle.asm.specs.Meaning.{instruction, meaning, wordOf, nevers}
+use Rattle.asm.specs.Meaning.{instruction, meaning, word_of, nevers}
 use Rattle.asm.proofs.Lines.{read-joined, label-line}
-use Rattle.asm.proofs.Room.{words_of, labelsOf, refersOf, words_in, labelsIn, refersIn, Reads, AllRead, Ends, room}
+use Rattle.asm.proofs.Room.{words_of, labels_of, refers_of, words_in, labels_in, refers_in, Reads, AllRead, Ends, room}
 use Rattle.asm.proofs.Sound.{words-meant, open-meant}
-use Rattle.source.specs.Words.{instructionOf, hasText, lowest}
-use Rattle.source.specs.Source.{labelName, aim_of, referenceName, referLine, labelLine, line_of, usedBy, lines_of, source_of, sourceText, sourceOrder, sourced}
+use Rattle.source.specs.Words.{instruction_of, has_text, lowest}
+use Rattle.source.specs.Source.{label_name, aim_of, reference_name, refer_line, label_line, line_of, used_by, lines_of, source_of, source_text, source_order, sourced}
 use Rattle.source.specs.Promises.{refers, references, Back, TextBack}
 use Rattle.source.proofs.AskLaws.{instruction-fits, text_says}
 use Rattle.source.proofs.MarkLaws.{words-fit, used-most}
@@ -40,24 +40,24 @@ use Rattle.source.proofs.Whole.{lines-printed, meaning-source}
 
 -- ---- what the lines take
 
-label-read : (a : ℕ) → read (labelLine a) ≡ is (Reading.label 0 (length (labelName a)))
-unfolding labelLine labelName
+label-read : (a : ℕ) → read (label_line a) ≡ is (Reading.label 0 (length (label_name a)))
+unfolding label_line label_name
 label-read a = label-line 76 (hex a) (name-plain a)
 
-refer-read : (r : Reference) (a : ℕ) → read (referLine r a) ≡ said 0 (joined (referenceName r ∷ labelName a ∷ [])) (is (Answers.refers r (labelName a)))
+refer-read : (r : Reference) (a : ℕ) → read (refer_line r a) ≡ said 0 (joined (reference_name r ∷ label_name a ∷ [])) (is (Answers.refers r (label_name a)))
 refer-read r a =
-    ap read (refer-joined r a) ∙ read-joined (referenceName r) (labelName a ∷ []) (refer-plain r a) ∙
-    ap (said 0 (joined (referenceName r ∷ labelName a ∷ []))) (refer-parse r a)
+    ap read (refer-joined r a) ∙ read-joined (reference_name r) (label_name a ∷ []) (refer-plain r a) ∙
+    ap (said 0 (joined (reference_name r ∷ label_name a ∷ []))) (refer-parse r a)
 
 -- they can be read, and take so many words, no more labels than these, and so many references
 record Takes (ls : List (List ℕ)) (m k r : ℕ) : Type 0 where
   pub reads : AllRead ls
   pub words : words_in ls ≡ m
-  pub labels : labelsIn ls ≤ k
-  pub references : refersIn ls ≡ r
+  pub labels : labels_in ls ≤ k
+  pub references : refers_in ls ≡ r
 
 module _ {ls : List (List ℕ)} {m k r : ℕ} (h : Takes ls m k r) where
-  takes-more : {x : Told Item} {l : List ℕ} {p q s : ℕ} → read l ≡ x → Reads x → words_of x + m ≡ p → labelsOf x + k ≤ q → refersOf x + r ≡ s → Takes (l ∷ ls) p q s
+  takes-more : {x : Told Item} {l : List ℕ} {p q s : ℕ} → read l ≡ x → Reads x → words_of x + m ≡ p → labels_of x + k ≤ q → refers_of x + r ≡ s → Takes (l ∷ ls) p q s
   takes-more e f a b c =
       record {
         reads = rw e (f, h.reads);
@@ -86,15 +86,15 @@ none_never : (xs : List Instruction) → nevers (map instruction xs) ≡ 0
 none_never [] = refl
 none_never (i ∷ xs) = none_never xs
 
-words-said : (ws : List ℕ) → length ws ≤ lowest ws → Good (map instructionOf ws) × (map wordOf (map instruction (map instructionOf ws)) ≡ ws)
+words-said : (ws : List ℕ) → length ws ≤ lowest ws → Good (map instruction_of ws) × (map word_of (map instruction (map instruction_of ws)) ≡ ws)
 words-said [] h = (tt, refl)
-words-said (w ∷ ws) h = go (hasText w) refl h (words-said ws)
+words-said (w ∷ ws) h = go (has_text w) refl h (words-said ws)
   where
     xs : List Instruction
-    xs = map instructionOf ws
+    xs = map instruction_of ws
 
-    go : (t : Bool) → hasText w ≡ t → suc (length ws) ≤ cond t (suc (lowest ws)) 0 → (length ws ≤ lowest ws → Good xs × (map wordOf (map instruction xs) ≡ ws)) →
-        Good (instructionOf w ∷ xs) × (map wordOf (map instruction (instructionOf w ∷ xs)) ≡ w ∷ ws)
+    go : (t : Bool) → has_text w ≡ t → suc (length ws) ≤ cond t (suc (lowest ws)) 0 → (length ws ≤ lowest ws → Good xs × (map word_of (map instruction xs) ≡ ws)) →
+        Good (instruction_of w ∷ xs) × (map word_of (map instruction (instruction_of w ∷ xs)) ≡ w ∷ ws)
     go true e l ih =
         let s = text_says w e in
         let r = ih (omega (arith, l)) in
@@ -103,44 +103,44 @@ words-said (w ∷ ws) h = go (hasText w) refl h (words-said ws)
 
 -- ---- the whole
 
-module _ (ws : List ℕ) (most : length ws ≤ 32767) (all : length ws ≤ lowest ws) (wordRoom labelRoom : ℕ) (hw : length ws ≤ wordRoom) (hl : 1024 ≤ labelRoom) where
+module _ (ws : List ℕ) (most : length ws ≤ 32767) (all : length ws ≤ lowest ws) (word_room label_room : ℕ) (hw : length ws ≤ word_room) (hl : 1024 ≤ label_room) where
   abbrev xs : List Instruction
-  xs = map instructionOf ws
+  xs = map instruction_of ws
 
   abbrev ls : List (List ℕ)
-  ls = lines_of (usedBy xs) (length xs) 0 xs
+  ls = lines_of (used_by xs) (length xs) 0 xs
 
-  few : (k : ℕ) → usedBy xs (doubled k) ≡ true → k < 1024
+  few : (k : ℕ) → used_by xs (doubled k) ≡ true → k < 1024
   few k e = let h = used-most xs (doubled k) (words-fit ws) e in omega arith
 
-  takes : Takes (lines (sourceText ws)) (length ws) 1024 (references (length ws) xs)
+  takes : Takes (lines (source_text ws)) (length ws) 1024 (references (length ws) xs)
   unfolding source_of
   takes =
-      rw (lines-ended ls (lines-printed (usedBy xs) (length xs) 0 xs))
-      (subst (λ (n : ℕ). Takes ls n 1024 (references n xs)) (length-map ws instructionOf) (lines-take (usedBy xs) few (length xs) 0 xs (words-said ws all).0))
+      rw (lines-ended ls (lines-printed (used_by xs) (length xs) 0 xs))
+      (subst (λ (n : ℕ). Takes ls n 1024 (references n xs)) (length-map ws instruction_of) (lines-take (used_by xs) few (length xs) 0 xs (words-said ws all).0))
 
-  ends : Ends (references (length ws) xs) (outcome false (sourceText ws) wordRoom labelRoom)
+  ends : Ends (references (length ws) xs) (outcome false (source_text ws) word_room label_room)
   unfolding source_of
   ends =
       rw (sym takes.references)
-      (room (sourceText ws) wordRoom labelRoom (ended-clean ls 1 (lines-printed (usedBy xs) (length xs) 0 xs)) takes.reads
+      (room (source_text ws) word_room label_room (ended-clean ls 1 (lines-printed (used_by xs) (length xs) 0 xs)) takes.reads
       (omega (arith, takes.words, hw)) (omega (arith, takes.words, most)) (omega (arith, takes.labels, hl)))
 
-  words_back : Back ws (outcome false (sourceText ws) wordRoom labelRoom)
-  words_back = go (outcome false (sourceText ws) wordRoom labelRoom) refl ends
+  words_back : Back ws (outcome false (source_text ws) word_room label_room)
+  words_back = go (outcome false (source_text ws) word_room label_room) refl ends
     where
       t : Task
-      t = task false (sourceText ws) wordRoom labelRoom
+      t = task false (source_text ws) word_room label_room
 
-      means : meaning (sourceText ws) ≡ map instruction xs
-      means = meaning-source xs (omega (arith, most, length-map ws instructionOf)) (words-said ws all).0
+      means : meaning (source_text ws) ≡ map instruction xs
+      means = meaning-source xs (omega (arith, most, length-map ws instruction_of)) (words-said ws all).0
 
       go : (o : Outcome) → assemble t ≡ o → Ends (references (length ws) xs) o → Back ws o
-      go (accepted w) e h = (words-meant t w e ∙ ap (map wordOf) means ∙ (words-said ws all).1, open-meant t w e ∙ ap nevers means ∙ none_never xs)
+      go (accepted w) e h = (words-meant t w e ∙ ap (map word_of) means ∙ (words-said ws all).1, open-meant t w e ∙ ap nevers means ∙ none_never xs)
       go (refused n line) e h = h
 
 pub text-back : TextBack
 unfolding sourced
-text-back ws space n e wordRoom labelRoom hw hl =
-    let p = (passed-value (sourceOrder ws space) (length (sourceText ws)) n e).0 in
-    words_back ws (ltb-false 32767 (length ws) p.0) (ltb-false (lowest ws) (length ws) p.1.0) wordRoom labelRoom hw hl
+text-back ws space n e word_room label_room hw hl =
+    let p = (passed-value (source_order ws space) (length (source_text ws)) n e).0 in
+    words_back ws (ltb-false 32767 (length ws) p.0) (ltb-false (lowest ws) (length ws) p.1.0) word_room label_room hw hl

@@ -19,9 +19,9 @@ use Rattle.instruction.specs.declared.Operand.TheVariants.{Reg, Imm}
 use Rattle.instruction.specs.Fits.{fits}
 use Rattle.source.specs.declared.aims.Aim.{Aim}
 use Rattle.source.specs.declared.aims.Aim.TheVariants.{Nowhere, To}
-use Rattle.source.specs.Words.{instructionOf}
-use Rattle.source.specs.Source.{aim_of, aimsAt, usedBy, lines_of}
-use Rattle.source.specs.Marks.{markedBy, marked, isMarked, usedIn}
+use Rattle.source.specs.Words.{instruction_of}
+use Rattle.source.specs.Source.{aim_of, aims_at, used_by, lines_of}
+use Rattle.source.specs.Marks.{marked_by, marked, is_marked, used_in}
 use Rattle.source.proofs.AskLaws.{instruction-fits}
 
 -- ---- an aim has eleven bits
@@ -47,7 +47,7 @@ aim-below (Cmp r o op) f = tt
 aim-below (CallRet true a) f = tt
 aim-below (CallRet false a) f = ltb-true a (2 ^ 11) f
 
-aims-below : (x : Aim) (a : ℕ) → Below x → aimsAt a x ≡ true → a < 2048
+aims-below : (x : Aim) (a : ℕ) → Below x → aims_at a x ≡ true → a < 2048
 aims-below Nowhere a h e = clash e
 aims-below (To r b) a h e = let q = eqb-true b a e in omega arith
 
@@ -55,26 +55,26 @@ abbrev pub AllFit : List Instruction → Type 0
 AllFit [] = Unit {0}
 AllFit (i ∷ xs) = (fits i ≡ true) × AllFit xs
 
-pub words-fit : (ws : List ℕ) → AllFit (map instructionOf ws)
+pub words-fit : (ws : List ℕ) → AllFit (map instruction_of ws)
 words-fit [] = tt
 words-fit (w ∷ ws) = (instruction-fits w, words-fit ws)
 
-pub used-most : (xs : List Instruction) (a : ℕ) → AllFit xs → usedBy xs a ≡ true → a < 2048
+pub used-most : (xs : List Instruction) (a : ℕ) → AllFit xs → used_by xs a ≡ true → a < 2048
 used-most [] a g e = clash e
-used-most (i ∷ xs) a g e = go (aimsAt a (aim_of i)) refl e (used-most xs a g.1)
+used-most (i ∷ xs) a g e = go (aims_at a (aim_of i)) refl e (used-most xs a g.1)
   where
-    go : (t : Bool) → aimsAt a (aim_of i) ≡ t → (t || usedBy xs a) ≡ true → (usedBy xs a ≡ true → a < 2048) → a < 2048
+    go : (t : Bool) → aims_at a (aim_of i) ≡ t → (t || used_by xs a) ≡ true → (used_by xs a ≡ true → a < 2048) → a < 2048
     go true q h ih = aims-below (aim_of i) a (aim-below i g.0) q
     go false q h ih = ih h
 
 -- ---- a mark is set where the address is used
 
 module _ (used : List ℕ) (k : ℕ) (h : k < length used) where
-  mark-at : (x : Aim) → isMarked (markedBy x used) k ≡ (aimsAt (doubled k) x || isMarked used k)
+  mark-at : (x : Aim) → is_marked (marked_by x used) k ≡ (aims_at (doubled k) x || is_marked used k)
   mark-at Nowhere = refl
   mark-at (To r a) = go (eqb (a % 2) 0) refl (eqb (a / 2) k) refl
     where
-      go : (t : Bool) → eqb (a % 2) 0 ≡ t → (u : Bool) → eqb (a / 2) k ≡ u → isMarked (cond t (set used (a / 2) 1) used) k ≡ (eqb a (doubled k) || isMarked used k)
+      go : (t : Bool) → eqb (a % 2) 0 ≡ t → (u : Bool) → eqb (a / 2) k ≡ u → is_marked (cond t (set used (a / 2) 1) used) k ≡ (eqb a (doubled k) || is_marked used k)
       go true e true q =
           let z = eqb-true (a % 2) 0 e in
           let s = eqb-true (a / 2) k q in
@@ -85,7 +85,7 @@ module _ (used : List ℕ) (k : ℕ) (h : k < length used) where
           rw (get_or-set_other used (a / 2) k 1 0 (λ (z : k ≡ a / 2). s (sym z)), ne_eqb a (doubled k) (λ z. s (omega arith)))
       go false e u q = let s = eqb-false (a % 2) 0 e in rw (ne_eqb a (doubled k) (λ z. s (omega arith)))
 
-length-mark : (x : Aim) (used : List ℕ) → length (markedBy x used) ≡ length used
+length-mark : (x : Aim) (used : List ℕ) → length (marked_by x used) ≡ length used
 length-mark Nowhere used = refl
 length-mark (To r a) used = go (eqb (a % 2) 0)
   where
@@ -95,7 +95,7 @@ length-mark (To r a) used = go (eqb (a % 2) 0)
 
 length_marked : (xs : List Instruction) (used : List ℕ) → length (marked xs used) ≡ length used
 length_marked [] used = refl
-length_marked (i ∷ xs) used = length_marked xs (markedBy (aim_of i) used) ∙ length-mark (aim_of i) used
+length_marked (i ∷ xs) used = length_marked xs (marked_by (aim_of i) used) ∙ length-mark (aim_of i) used
 
 or_turned : (t u v : Bool) → (u || (t || v)) ≡ (t || u || v)
 or_turned true true v = refl
@@ -103,14 +103,14 @@ or_turned true false v = refl
 or_turned false true v = refl
 or_turned false false v = refl
 
-marked-at : (xs : List Instruction) (used : List ℕ) (k : ℕ) → k < length used → isMarked (marked xs used) k ≡ (usedBy xs (doubled k) || isMarked used k)
+marked-at : (xs : List Instruction) (used : List ℕ) (k : ℕ) → k < length used → is_marked (marked xs used) k ≡ (used_by xs (doubled k) || is_marked used k)
 marked-at [] used k h = refl
 marked-at (i ∷ xs) used k h =
-    let next = markedBy (aim_of i) used in
+    let next = marked_by (aim_of i) used in
     let l : k < length next = omega (arith, h, length-mark (aim_of i) used) in
     marked-at xs next k l
-    ∙ ap (λ (t : Bool). usedBy xs (doubled k) || t) (mark-at used k h (aim_of i))
-    ∙ or_turned (aimsAt (doubled k) (aim_of i)) (usedBy xs (doubled k)) (isMarked used k)
+    ∙ ap (λ (t : Bool). used_by xs (doubled k) || t) (mark-at used k h (aim_of i))
+    ∙ or_turned (aims_at (doubled k) (aim_of i)) (used_by xs (doubled k)) (is_marked used k)
 
 or-false : (t : Bool) → (t || false) ≡ t
 or-false true = refl
@@ -120,26 +120,26 @@ module _ (xs : List Instruction) (g : AllFit xs) (k : ℕ) where
   abbrev marks : List ℕ
   marks = marked xs (replicate 1024 0)
 
-  within-marks : k < 1024 → isMarked marks k ≡ usedBy xs (doubled k)
+  within-marks : k < 1024 → is_marked marks k ≡ used_by xs (doubled k)
   within-marks h =
-      marked-at xs (replicate 1024 0) k h ∙ ap (λ (b : ℕ). usedBy xs (doubled k) || eqb b 1) (get_or-replicate 1024 k 0 0 h) ∙ or-false (usedBy xs (doubled k))
+      marked-at xs (replicate 1024 0) k h ∙ ap (λ (b : ℕ). used_by xs (doubled k) || eqb b 1) (get_or-replicate 1024 k 0 0 h) ∙ or-false (used_by xs (doubled k))
 
-  past-marks : 1024 ≤ k → isMarked marks k ≡ usedBy xs (doubled k)
+  past-marks : 1024 ≤ k → is_marked marks k ≡ used_by xs (doubled k)
   past-marks h =
       let l : length marks ≤ k = omega (arith, h, length_marked xs (replicate 1024 0)) in
-      rw (get_or-eq_default marks 0 l) (go (usedBy xs (doubled k)) refl)
+      rw (get_or-eq_default marks 0 l) (go (used_by xs (doubled k)) refl)
     where
-      go : (t : Bool) → usedBy xs (doubled k) ≡ t → false ≡ t
+      go : (t : Bool) → used_by xs (doubled k) ≡ t → false ≡ t
       go true e = absurd (let m = used-most xs (doubled k) g e in omega arith)
       go false e = refl
 
   half : doubled k / 2 ≡ k
   half = omega arith
 
-  pub marks-used : usedIn (marked xs (replicate 1024 0)) (doubled k) ≡ usedBy xs (doubled k)
-  marks-used = ap (isMarked marks) half ∙ go (ltb k 1024) refl
+  pub marks-used : used_in (marked xs (replicate 1024 0)) (doubled k) ≡ used_by xs (doubled k)
+  marks-used = ap (is_marked marks) half ∙ go (ltb k 1024) refl
     where
-      go : (t : Bool) → ltb k 1024 ≡ t → isMarked marks k ≡ usedBy xs (doubled k)
+      go : (t : Bool) → ltb k 1024 ≡ t → is_marked marks k ≡ used_by xs (doubled k)
       go true e = within-marks (ltb-true k 1024 e)
       go false e = past-marks (ltb-false k 1024 e)
 
@@ -149,15 +149,15 @@ lines_same : (u v : ℕ → Bool) → ((k : ℕ) → u (doubled k) ≡ v (double
 lines_same u v q n k [] = refl
 lines_same u v q n k (i ∷ xs) = rw (q k, lines_same u v q n (k + 1) xs)
 
-pub lines-marked : (xs : List Instruction) → AllFit xs → (n : ℕ) → lines_of (usedIn (marked xs (replicate 1024 0))) n 0 xs ≡ lines_of (usedBy xs) n 0 xs
-lines-marked xs g n = lines_same (usedIn (marked xs (replicate 1024 0))) (usedBy xs) (marks-used xs g) n 0 xs
+pub lines-marked : (xs : List Instruction) → AllFit xs → (n : ℕ) → lines_of (used_in (marked xs (replicate 1024 0))) n 0 xs ≡ lines_of (used_by xs) n 0 xs
+lines-marked xs g n = lines_same (used_in (marked xs (replicate 1024 0))) (used_by xs) (marks-used xs g) n 0 xs
 
 -- ---- the walk: what is left to mark makes the whole
 
 module _ (ws used : List ℕ) (i : ℕ) where
-  pub mark-more : {next : List ℕ} → i < length ws → next ≡ markedBy (aim_of (instructionOf (get_or ws i 0))) used
-      → marked (map instructionOf (drop i ws)) used ≡ marked (map instructionOf (drop (i + 1) ws)) next
+  pub mark-more : {next : List ℕ} → i < length ws → next ≡ marked_by (aim_of (instruction_of (get_or ws i 0))) used
+      → marked (map instruction_of (drop i ws)) used ≡ marked (map instruction_of (drop (i + 1) ws)) next
   mark-more h e = rw (drop-cons ws i 0 h, add-one, e)
 
-  pub mark-no-more : length ws ≤ i → marked (map instructionOf (drop i ws)) used ≡ used
+  pub mark-no-more : length ws ≤ i → marked (map instruction_of (drop i ws)) used ≡ used
   mark-no-more h = rw (drop_of_length-le ws h)

@@ -13,32 +13,32 @@ use Rattle.instruction.specs.declared.ArithmeticOp.TheVariants as seven
 use Rattle.instruction.specs.declared.CompareOp.TheVariants.{Eq, NotEq, Less, LessEq, Greater, GreaterEq}
 use Rattle.instruction.specs.declared.Instruction.{Instruction}
 use Rattle.instruction.specs.declared.Instruction.TheVariants.{Noop, Mov, MovShift, Arith, ArithRegReg, LdrStr, LdbStb, Cpy, Jmp, CondJmp, Cmp, CallRet}
-use Rattle.text.specs.Parts.{equals, dropFront}
+use Rattle.text.specs.Parts.{equals, drop_front}
 use Rattle.text.proofs.JoinedLaws.{is_plain, every}
-use Rattle.printer.specs.Text.{registerName, arithName, arithmeticName, compareName, shiftName, wordName, byteName}
+use Rattle.printer.specs.Text.{register_name, arith_name, arithmetic_name, compare_name, shift_name, word_name, byte_name}
 use Rattle.mnemonics.specs.Mnemonics.{rows, upper, kind_of}
 use Rattle.mnemonics.specs.declared.Kind.{Kind}
 use Rattle.mnemonics.specs.declared.Kind.TheVariants as kind
-use Rattle.parser.specs.Operands.{starts, registerNames, register, commaRegister}
+use Rattle.parser.specs.Operands.{starts, register_names, register, comma_register}
 
 -- one plain byte or more
-abbrev pub isToken : List ℕ → Bool
-isToken [] = false
-isToken (x ∷ xs) = every is_plain (x ∷ xs)
+abbrev pub is_token : List ℕ → Bool
+is_token [] = false
+is_token (x ∷ xs) = every is_plain (x ∷ xs)
 
 -- ---- registers
 
 -- alone, with a comma behind it or a bracket before it; and it starts with neither `#` nor `[`
 pub record Known (r : Register) : Type 0 where
-  pub alone : register (registerName r) ≡ is r
-  pub comma : commaRegister (registerName r ++ 44 ∷ []) ≡ is r
-  pub opened : dropFront (equals 91) (91 ∷ registerName r) ≡ registerName r
-  pub no-hash : starts 35 (registerName r) ≡ false
-  pub no-bracket : starts 91 (registerName r) ≡ false
-  pub token : isToken (registerName r) ≡ true
+  pub alone : register (register_name r) ≡ is r
+  pub comma : comma_register (register_name r ++ 44 ∷ []) ≡ is r
+  pub opened : drop_front (equals 91) (91 ∷ register_name r) ≡ register_name r
+  pub no-hash : starts 35 (register_name r) ≡ false
+  pub no-bracket : starts 91 (register_name r) ≡ false
+  pub token : is_token (register_name r) ≡ true
 
 pub known : (r : Register) → Known r
-unfolding register registerNames registerName is_plain
+unfolding register register_names register_name is_plain
 known A = record { alone = refl; comma = refl; opened = refl; no-hash = refl; no-bracket = refl; token = refl }
 known B = record { alone = refl; comma = refl; opened = refl; no-hash = refl; no-bracket = refl; token = refl }
 known C = record { alone = refl; comma = refl; opened = refl; no-hash = refl; no-bracket = refl; token = refl }
@@ -49,10 +49,10 @@ known BP = record { alone = refl; comma = refl; opened = refl; no-hash = refl; n
 known FLAGS = record { alone = refl; comma = refl; opened = refl; no-hash = refl; no-bracket = refl; token = refl }
 
 -- the printer's names of registers are the parser's
-pub register-back : (r : Register) → register (registerName r) ≡ is r
+pub register-back : (r : Register) → register (register_name r) ≡ is r
 register-back r = (known r).alone
 
-pub comma-back : (r : Register) → commaRegister (registerName r ++ 44 ∷ []) ≡ is r
+pub comma-back : (r : Register) → comma_register (register_name r ++ 44 ∷ []) ≡ is r
 comma-back r = (known r).comma
 
 -- ---- mnemonics
@@ -60,36 +60,36 @@ comma-back r = (known r).comma
 abbrev pub name_of : Instruction → List ℕ
 name_of Noop = bytes "NOOP"
 name_of (Mov d o) = bytes "MOV"
-name_of (MovShift r amount left imm) = shiftName left
-name_of (Arith d o op) = arithName op
-name_of (ArithRegReg d a b op) = arithmeticName op
-name_of (LdrStr r a store shift) = wordName store
-name_of (LdbStb r a store shift) = byteName store
+name_of (MovShift r amount left imm) = shift_name left
+name_of (Arith d o op) = arith_name op
+name_of (ArithRegReg d a b op) = arithmetic_name op
+name_of (LdrStr r a store shift) = word_name store
+name_of (LdbStb r a store shift) = byte_name store
 name_of (Cpy a b) = bytes "CPY"
 name_of (Jmp o) = bytes "JMP"
 name_of (CondJmp o) = bytes "CJP"
-name_of (Cmp r o op) = compareName op
+name_of (Cmp r o op) = compare_name op
 name_of (CallRet true a) = bytes "RET"
 name_of (CallRet false a) = bytes "CALL"
 
 -- the row of the mnemonic table that it is to find, its own; NOOP is no row's name
-abbrev pub kindFor : Instruction → Kind
-kindFor Noop = kind.Unknown
-kindFor (Mov d o) = kind.Mov
-kindFor (MovShift r amount left imm) = kind.MovShift left
-kindFor (Arith d o op) = kind.Arith op
-kindFor (ArithRegReg d a b op) = kind.ArithRegReg op
-kindFor (LdrStr r a store shift) = kind.Transfer false store
-kindFor (LdbStb r a store shift) = kind.Transfer true store
-kindFor (Cpy a b) = kind.Copy
-kindFor (Jmp o) = kind.Jump false
-kindFor (CondJmp o) = kind.Jump true
-kindFor (Cmp r o op) = kind.Compare op
-kindFor (CallRet true a) = kind.Ret
-kindFor (CallRet false a) = kind.Call
+abbrev pub kind_for : Instruction → Kind
+kind_for Noop = kind.Unknown
+kind_for (Mov d o) = kind.Mov
+kind_for (MovShift r amount left imm) = kind.MovShift left
+kind_for (Arith d o op) = kind.Arith op
+kind_for (ArithRegReg d a b op) = kind.ArithRegReg op
+kind_for (LdrStr r a store shift) = kind.Transfer false store
+kind_for (LdbStb r a store shift) = kind.Transfer true store
+kind_for (Cpy a b) = kind.Copy
+kind_for (Jmp o) = kind.Jump false
+kind_for (CondJmp o) = kind.Jump true
+kind_for (Cmp r o op) = kind.Compare op
+kind_for (CallRet true a) = kind.Ret
+kind_for (CallRet false a) = kind.Call
 
-pub named : (i : Instruction) → (kind_of (name_of i) ≡ kindFor i) × (isToken (name_of i) ≡ true)
-unfolding arithName arithmeticName compareName shiftName wordName byteName rows upper kind_of is_plain
+pub named : (i : Instruction) → (kind_of (name_of i) ≡ kind_for i) × (is_token (name_of i) ≡ true)
+unfolding arith_name arithmetic_name compare_name shift_name word_name byte_name rows upper kind_of is_plain
 named Noop = (refl, refl)
 named (Mov d o) = (refl, refl)
 named (MovShift r amount true imm) = (refl, refl)

@@ -13,21 +13,21 @@ use Rattle.instruction.specs.declared.Operand.TheVariants.{Reg, Imm}
 use Rattle.instruction.specs.declared.Instruction.{Instruction}
 use Rattle.instruction.specs.declared.Instruction.TheVariants.{Noop, Mov, MovShift, Arith, ArithRegReg, LdrStr, LdbStb, Cpy, Jmp, CondJmp, Cmp, CallRet}
 use Rattle.text.proofs.JoinedLaws.{joined, is_plain, every, Plains}
-use Rattle.pen.specs.Numbers.{hexDigit, hex}
+use Rattle.pen.specs.Numbers.{hex_digit, hex}
 use Rattle.parser.specs.declared.Reference.{Reference}
 use Rattle.parser.specs.declared.Reference.TheVariants as reference
 use Rattle.parser.specs.Answers.{refers}
-use Rattle.parser.specs.Operands.{registerNames, register}
+use Rattle.parser.specs.Operands.{register_names, register}
 use Rattle.parser.specs.Parse.{parse, takes, meaning, target, callee}
 use Rattle.parser.specs.References.{resolved}
 use Rattle.source.specs.declared.aims.Aim.{Aim}
 use Rattle.source.specs.declared.aims.Aim.TheVariants.{Nowhere, To}
-use Rattle.source.specs.Source.{labelName, aim_of, referenceName, referLine}
+use Rattle.source.specs.Source.{label_name, aim_of, reference_name, refer_line}
 use Rattle.source.proofs.Names.{named}
 
 -- ---- a label's name
 
-hex-plain : (d : ℕ) → d < 16 → is_plain (hexDigit d) ≡ true
+hex-plain : (d : ℕ) → d < 16 → is_plain (hex_digit d) ≡ true
 unfolding is_plain
 hex-plain d h = go (ltb d 10) refl
   where
@@ -41,27 +41,27 @@ letter : is_plain 76 ≡ true
 unfolding is_plain
 letter = refl
 
-pub name-plain : (a : ℕ) → every is_plain (labelName a) ≡ true
-unfolding labelName hex
+pub name-plain : (a : ℕ) → every is_plain (label_name a) ≡ true
+unfolding label_name hex
 name-plain a =
     rw (letter, hex-plain (a / 4096 % 16) (omega arith), hex-plain (a / 256 % 16) (omega arith), hex-plain (a / 16 % 16) (omega arith), hex-plain (a % 16) (omega arith))
 
 -- ---- a line that refers to it
 
-pub refer-joined : (r : Reference) (a : ℕ) → referLine r a ≡ joined (referenceName r ∷ labelName a ∷ [])
-unfolding referLine
+pub refer-joined : (r : Reference) (a : ℕ) → refer_line r a ≡ joined (reference_name r ∷ label_name a ∷ [])
+unfolding refer_line
 refer-joined reference.Jmp a = refl
 refer-joined reference.CondJmp a = refl
 refer-joined reference.Call a = refl
 
-pub refer-plain : (r : Reference) (a : ℕ) → Plains (referenceName r ∷ labelName a ∷ [])
-unfolding labelName is_plain
+pub refer-plain : (r : Reference) (a : ℕ) → Plains (reference_name r ∷ label_name a ∷ [])
+unfolding label_name is_plain
 refer-plain reference.Jmp a = (refl, (name-plain a, tt))
 refer-plain reference.CondJmp a = (refl, (name-plain a, tt))
 refer-plain reference.Call a = (refl, (name-plain a, tt))
 
-pub refer-parse : (r : Reference) (a : ℕ) → parse (referenceName r ∷ labelName a ∷ []) ≡ is (refers r (labelName a))
-unfolding parse takes meaning target callee register registerNames labelName hex
+pub refer-parse : (r : Reference) (a : ℕ) → parse (reference_name r ∷ label_name a ∷ []) ≡ is (refers r (label_name a))
+unfolding parse takes meaning target callee register register_names label_name hex
 refer-parse reference.Jmp a = rw (named (Jmp (Imm a))).0
 refer-parse reference.CondJmp a = rw (named (CondJmp (Imm a))).0
 refer-parse reference.Call a = rw (named (CallRet false a)).0

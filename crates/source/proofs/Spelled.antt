@@ -16,45 +16,45 @@ use Rattle.instruction.specs.declared.Operand.{Operand}
 use Rattle.instruction.specs.declared.Operand.TheVariants.{Reg, Imm}
 use Rattle.instruction.specs.declared.Instruction.{Instruction}
 use Rattle.instruction.specs.declared.Instruction.TheVariants.{Noop, Mov, MovShift, Arith, ArithRegReg, LdrStr, LdbStb, Cpy, Jmp, CondJmp, Cmp, CallRet}
-use Rattle.text.specs.Tokens.{tokens, first, tokenAt}
+use Rattle.text.specs.Tokens.{tokens, first, token_at}
 use Rattle.text.proofs.JoinedLaws.{joined, is_plain, every, every_append, Plains, tokens-joined}
-use Rattle.printer.specs.Text.{immediate_of, registerName, operandOf, one, pair, three, bracketed, shifted, turned, address_of, addressed, callText, textIn}
+use Rattle.printer.specs.Text.{immediate_of, register_name, operand_of, one, pair, three, bracketed, shifted, turned, address_of, addressed, call_text, text_in}
 use Rattle.mnemonics.specs.Mnemonics.{kind_of}
 use Rattle.source.proofs.Numbers.{immediate-plain}
-use Rattle.source.proofs.Names.{isToken, known, name_of, kindFor, named}
+use Rattle.source.proofs.Names.{is_token, known, name_of, kind_for, named}
 
 -- ---- the tokens after the mnemonic
 
 abbrev pub comma : Register → List ℕ
-comma r = registerName r ++ 44 ∷ []
+comma r = register_name r ++ 44 ∷ []
 
-abbrev pub bracketTokens : List ℕ → ℕ → List (List ℕ)
-bracketTokens t n = (91 ∷ t) ∷ (immediate_of n ++ 93 ∷ []) ∷ []
+abbrev pub bracket_tokens : List ℕ → ℕ → List (List ℕ)
+bracket_tokens t n = (91 ∷ t) ∷ (immediate_of n ++ 93 ∷ []) ∷ []
 
-abbrev pub turnTokens : Edition → ℕ → ℕ → List (List ℕ)
-turnTokens First amount imm = bracketTokens (immediate_of amount) imm
-turnTokens Second amount imm = bracketTokens (immediate_of imm) amount
+abbrev pub turn_tokens : Edition → ℕ → ℕ → List (List ℕ)
+turn_tokens First amount imm = bracket_tokens (immediate_of amount) imm
+turn_tokens Second amount imm = bracket_tokens (immediate_of imm) amount
 
-abbrev pub addressTokens : Register → ℕ → List (List ℕ)
-addressTokens a shift = cond (eqb shift 0) (registerName a ∷ []) (bracketTokens (registerName a) shift)
+abbrev pub address_tokens : Register → ℕ → List (List ℕ)
+address_tokens a shift = cond (eqb shift 0) (register_name a ∷ []) (bracket_tokens (register_name a) shift)
 
-abbrev pub operandsOf : Edition → Instruction → List (List ℕ)
-operandsOf e Noop = []
-operandsOf e (Mov d o) = comma d ∷ operandOf o ∷ []
-operandsOf e (MovShift r amount left imm) = comma r ∷ turnTokens e amount imm
-operandsOf e (Arith d o op) = comma d ∷ operandOf o ∷ []
-operandsOf e (ArithRegReg d a b op) = comma d ∷ comma a ∷ registerName b ∷ []
-operandsOf e (LdrStr r a store shift) = comma r ∷ addressTokens a shift
-operandsOf e (LdbStb r a store shift) = comma r ∷ addressTokens a shift
-operandsOf e (Cpy a b) = comma a ∷ registerName b ∷ []
-operandsOf e (Jmp o) = operandOf o ∷ []
-operandsOf e (CondJmp o) = operandOf o ∷ []
-operandsOf e (Cmp r o op) = comma r ∷ operandOf o ∷ []
-operandsOf e (CallRet true a) = []
-operandsOf e (CallRet false a) = immediate_of a ∷ []
+abbrev pub operands_of : Edition → Instruction → List (List ℕ)
+operands_of e Noop = []
+operands_of e (Mov d o) = comma d ∷ operand_of o ∷ []
+operands_of e (MovShift r amount left imm) = comma r ∷ turn_tokens e amount imm
+operands_of e (Arith d o op) = comma d ∷ operand_of o ∷ []
+operands_of e (ArithRegReg d a b op) = comma d ∷ comma a ∷ register_name b ∷ []
+operands_of e (LdrStr r a store shift) = comma r ∷ address_tokens a shift
+operands_of e (LdbStb r a store shift) = comma r ∷ address_tokens a shift
+operands_of e (Cpy a b) = comma a ∷ register_name b ∷ []
+operands_of e (Jmp o) = operand_of o ∷ []
+operands_of e (CondJmp o) = operand_of o ∷ []
+operands_of e (Cmp r o op) = comma r ∷ operand_of o ∷ []
+operands_of e (CallRet true a) = []
+operands_of e (CallRet false a) = immediate_of a ∷ []
 
-abbrev pub tokensOf : Edition → Instruction → List (List ℕ)
-tokensOf e i = name_of i ∷ operandsOf e i
+abbrev pub tokens_of : Edition → Instruction → List (List ℕ)
+tokens_of e i = name_of i ∷ operands_of e i
 
 -- ---- as they are printed
 
@@ -70,37 +70,37 @@ closed x y = ap (λ (l : List ℕ). 91 ∷ l) (between x y)
 module _ (m : List ℕ) where
   -- a register, and what stands behind its comma
   register-joined : (r : Register) (x t : List ℕ) (ts : List (List ℕ)) → x ≡ joined (t ∷ ts) →
-      m ++ (bytes " " ++ registerName r ++ bytes ", " ++ x) ≡ joined (m ∷ comma r ∷ t ∷ ts)
-  register-joined r x t ts e = ap (λ (l : List ℕ). m ++ 32 ∷ l) (spaced (registerName r) x ∙ ap (λ (l : List ℕ). comma r ++ 32 ∷ l) e)
+      m ++ (bytes " " ++ register_name r ++ bytes ", " ++ x) ≡ joined (m ∷ comma r ∷ t ∷ ts)
+  register-joined r x t ts e = ap (λ (l : List ℕ). m ++ 32 ∷ l) (spaced (register_name r) x ∙ ap (λ (l : List ℕ). comma r ++ 32 ∷ l) e)
 
-  pair-joined : (d : Register) (o : Operand) → m ++ pair d o ≡ joined (m ∷ comma d ∷ operandOf o ∷ [])
+  pair-joined : (d : Register) (o : Operand) → m ++ pair d o ≡ joined (m ∷ comma d ∷ operand_of o ∷ [])
   unfolding pair
-  pair-joined d o = register-joined d (operandOf o) (operandOf o) [] refl
+  pair-joined d o = register-joined d (operand_of o) (operand_of o) [] refl
 
-  three-joined : (d a b : Register) → m ++ three d a b ≡ joined (m ∷ comma d ∷ comma a ∷ registerName b ∷ [])
-  unfolding three pair operandOf
+  three-joined : (d a b : Register) → m ++ three d a b ≡ joined (m ∷ comma d ∷ comma a ∷ register_name b ∷ [])
+  unfolding three pair operand_of
   three-joined d a b = simp append_assoc
 
   bracket-joined : (r : Register) (x : List ℕ) (n : ℕ) →
-      m ++ (bytes " " ++ registerName r ++ bytes ", " ++ (bytes "[" ++ x ++ bytes " " ++ immediate_of n ++ bytes "]")) ≡ joined (m ∷ comma r ∷ bracketTokens x n)
+      m ++ (bytes " " ++ register_name r ++ bytes ", " ++ (bytes "[" ++ x ++ bytes " " ++ immediate_of n ++ bytes "]")) ≡ joined (m ∷ comma r ∷ bracket_tokens x n)
   bracket-joined r x n = register-joined r (bytes "[" ++ x ++ bytes " " ++ immediate_of n ++ bytes "]") (91 ∷ x) ((immediate_of n ++ 93 ∷ []) ∷ []) (closed x (immediate_of n))
 
-  shift-joined : (r : Register) (x y : ℕ) → m ++ shifted r x y ≡ joined (m ∷ comma r ∷ bracketTokens (immediate_of x) y)
+  shift-joined : (r : Register) (x y : ℕ) → m ++ shifted r x y ≡ joined (m ∷ comma r ∷ bracket_tokens (immediate_of x) y)
   unfolding shifted bracketed
   shift-joined r x y = bracket-joined r (immediate_of x) y
 
-  address-joined : (r a : Register) (shift : ℕ) → m ++ addressed r a shift ≡ joined (m ∷ comma r ∷ addressTokens a shift)
+  address-joined : (r a : Register) (shift : ℕ) → m ++ addressed r a shift ≡ joined (m ∷ comma r ∷ address_tokens a shift)
   unfolding addressed address_of
   address-joined r a shift = go (eqb shift 0)
     where
       go : (t : Bool) →
-          m ++ (bytes " " ++ registerName r ++ bytes ", " ++ cond t (registerName a) (bytes "[" ++ registerName a ++ bytes " " ++ immediate_of shift ++ bytes "]")) ≡
-          joined (m ∷ comma r ∷ cond t (registerName a ∷ []) (bracketTokens (registerName a) shift))
-      go true = register-joined r (registerName a) (registerName a) [] refl
-      go false = bracket-joined r (registerName a) shift
+          m ++ (bytes " " ++ register_name r ++ bytes ", " ++ cond t (register_name a) (bytes "[" ++ register_name a ++ bytes " " ++ immediate_of shift ++ bytes "]")) ≡
+          joined (m ∷ comma r ∷ cond t (register_name a ∷ []) (bracket_tokens (register_name a) shift))
+      go true = register-joined r (register_name a) (register_name a) [] refl
+      go false = bracket-joined r (register_name a) shift
 
-pub text-joined : (e : Edition) (i : Instruction) → textIn e i ≡ joined (tokensOf e i)
-unfolding textIn turned one callText operandOf
+pub text-joined : (e : Edition) (i : Instruction) → text_in e i ≡ joined (tokens_of e i)
+unfolding text_in turned one call_text operand_of
 text-joined e Noop = refl
 text-joined e (Mov d o) = pair-joined (name_of (Mov d o)) d o
 text-joined First (MovShift r amount left imm) = shift-joined (name_of (MovShift r amount left imm)) r amount imm
@@ -118,65 +118,65 @@ text-joined e (CallRet false a) = refl
 
 -- ---- each is a plain token
 
-plains : (t : List ℕ) (ts : List (List ℕ)) → isToken t ≡ true → Plains ts → Plains (t ∷ ts)
+plains : (t : List ℕ) (ts : List (List ℕ)) → is_token t ≡ true → Plains ts → Plains (t ∷ ts)
 plains [] ts e h = clash e
 plains (x ∷ xs) ts e h = (e, h)
 
-longer : (t u : List ℕ) → isToken t ≡ true → every is_plain u ≡ true → isToken (t ++ u) ≡ true
+longer : (t u : List ℕ) → is_token t ≡ true → every is_plain u ≡ true → is_token (t ++ u) ≡ true
 longer [] u e f = clash e
 longer (x ∷ xs) u e f = every_append is_plain (x ∷ xs) u e f
 
-immediate-token : (n : ℕ) → isToken (immediate_of n) ≡ true
+immediate-token : (n : ℕ) → is_token (immediate_of n) ≡ true
 unfolding immediate_of
 immediate-token n = immediate-plain n
 
 -- as the last token, before a comma, in brackets
-plain-register : (r : Register) → Plains (registerName r ∷ [])
-plain-register r = plains (registerName r) [] (known r).token tt
+plain-register : (r : Register) → Plains (register_name r ∷ [])
+plain-register r = plains (register_name r) [] (known r).token tt
 
-plain-operand : (o : Operand) → Plains (operandOf o ∷ [])
-unfolding operandOf
+plain-operand : (o : Operand) → Plains (operand_of o ∷ [])
+unfolding operand_of
 plain-operand (Reg r) = plain-register r
 plain-operand (Imm n) = plains (immediate_of n) [] (immediate-token n) tt
 
 plain-comma : (r : Register) (ts : List (List ℕ)) → Plains ts → Plains (comma r ∷ ts)
 unfolding is_plain
-plain-comma r ts h = plains (comma r) ts (longer (registerName r) (44 ∷ []) (known r).token refl) h
+plain-comma r ts h = plains (comma r) ts (longer (register_name r) (44 ∷ []) (known r).token refl) h
 
-plain-bracket : (t : List ℕ) (n : ℕ) → isToken t ≡ true → Plains (bracketTokens t n)
+plain-bracket : (t : List ℕ) (n : ℕ) → is_token t ≡ true → Plains (bracket_tokens t n)
 unfolding is_plain
 plain-bracket [] n h = clash h
 plain-bracket (x ∷ xs) n h = (h, plains (immediate_of n ++ 93 ∷ []) [] (longer (immediate_of n) (93 ∷ []) (immediate-token n) refl) tt)
 
-plain-address : (a : Register) (shift : ℕ) → Plains (addressTokens a shift)
+plain-address : (a : Register) (shift : ℕ) → Plains (address_tokens a shift)
 plain-address a shift = go (eqb shift 0)
   where
-    go : (t : Bool) → Plains (cond t (registerName a ∷ []) (bracketTokens (registerName a) shift))
+    go : (t : Bool) → Plains (cond t (register_name a ∷ []) (bracket_tokens (register_name a) shift))
     go true = plain-register a
-    go false = plain-bracket (registerName a) shift (known a).token
+    go false = plain-bracket (register_name a) shift (known a).token
 
-operands-plain : (e : Edition) (i : Instruction) → Plains (operandsOf e i)
+operands-plain : (e : Edition) (i : Instruction) → Plains (operands_of e i)
 operands-plain e Noop = tt
-operands-plain e (Mov d o) = plain-comma d (operandOf o ∷ []) (plain-operand o)
-operands-plain First (MovShift r amount left imm) = plain-comma r (turnTokens First amount imm) (plain-bracket (immediate_of amount) imm (immediate-token amount))
-operands-plain Second (MovShift r amount left imm) = plain-comma r (turnTokens Second amount imm) (plain-bracket (immediate_of imm) amount (immediate-token imm))
-operands-plain e (Arith d o op) = plain-comma d (operandOf o ∷ []) (plain-operand o)
-operands-plain e (ArithRegReg d a b op) = plain-comma d (comma a ∷ registerName b ∷ []) (plain-comma a (registerName b ∷ []) (plain-register b))
-operands-plain e (LdrStr r a store shift) = plain-comma r (addressTokens a shift) (plain-address a shift)
-operands-plain e (LdbStb r a store shift) = plain-comma r (addressTokens a shift) (plain-address a shift)
-operands-plain e (Cpy a b) = plain-comma a (registerName b ∷ []) (plain-register b)
+operands-plain e (Mov d o) = plain-comma d (operand_of o ∷ []) (plain-operand o)
+operands-plain First (MovShift r amount left imm) = plain-comma r (turn_tokens First amount imm) (plain-bracket (immediate_of amount) imm (immediate-token amount))
+operands-plain Second (MovShift r amount left imm) = plain-comma r (turn_tokens Second amount imm) (plain-bracket (immediate_of imm) amount (immediate-token imm))
+operands-plain e (Arith d o op) = plain-comma d (operand_of o ∷ []) (plain-operand o)
+operands-plain e (ArithRegReg d a b op) = plain-comma d (comma a ∷ register_name b ∷ []) (plain-comma a (register_name b ∷ []) (plain-register b))
+operands-plain e (LdrStr r a store shift) = plain-comma r (address_tokens a shift) (plain-address a shift)
+operands-plain e (LdbStb r a store shift) = plain-comma r (address_tokens a shift) (plain-address a shift)
+operands-plain e (Cpy a b) = plain-comma a (register_name b ∷ []) (plain-register b)
 operands-plain e (Jmp o) = plain-operand o
 operands-plain e (CondJmp o) = plain-operand o
-operands-plain e (Cmp r o op) = plain-comma r (operandOf o ∷ []) (plain-operand o)
+operands-plain e (Cmp r o op) = plain-comma r (operand_of o ∷ []) (plain-operand o)
 operands-plain e (CallRet true a) = tt
 operands-plain e (CallRet false a) = plains (immediate_of a) [] (immediate-token a) tt
 
-pub text-plain : (e : Edition) (i : Instruction) → Plains (tokensOf e i)
-text-plain e i = plains (name_of i) (operandsOf e i) (named i).1 (operands-plain e i)
+pub text-plain : (e : Edition) (i : Instruction) → Plains (tokens_of e i)
+text-plain e i = plains (name_of i) (operands_of e i) (named i).1 (operands-plain e i)
 
-pub text-tokens : (e : Edition) (i : Instruction) → tokens (textIn e i) ≡ tokensOf e i
-text-tokens e i = ap tokens (text-joined e i) ∙ tokens-joined (tokensOf e i) (text-plain e i)
+pub text-tokens : (e : Edition) (i : Instruction) → tokens (text_in e i) ≡ tokens_of e i
+text-tokens e i = ap tokens (text-joined e i) ∙ tokens-joined (tokens_of e i) (text-plain e i)
 
 -- the printer's names are the mnemonic table's
-pub printed-name : (e : Edition) (i : Instruction) → kind_of (tokenAt (textIn e i) 0) ≡ kindFor i
+pub printed-name : (e : Edition) (i : Instruction) → kind_of (token_at (text_in e i) 0) ≡ kind_for i
 printed-name e i = ap (λ (ts : List (List ℕ)). kind_of (first (drop 0 ts))) (text-tokens e i) ∙ (named i).0

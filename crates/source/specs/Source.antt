@@ -16,7 +16,7 @@ use Rattle.instruction.specs.declared.Operand.{Operand}
 use Rattle.instruction.specs.declared.Operand.TheVariants.{Reg, Imm}
 use Rattle.instruction.specs.declared.Instruction.{Instruction}
 use Rattle.instruction.specs.declared.Instruction.TheVariants.{Noop, Mov, MovShift, Arith, ArithRegReg, LdrStr, LdbStb, Cpy, Jmp, CondJmp, Cmp, CallRet}
-use Rattle.printer.specs.Text.{textIn}
+use Rattle.printer.specs.Text.{text_in}
 use Rattle.printer.specs.Print.{placed}
 use Rattle.pen.specs.Numbers.{hex}
 use Rattle.text.specs.Lines.{ended}
@@ -26,32 +26,32 @@ use Rattle.source.specs.declared.Written.{Written}
 use Rattle.source.specs.declared.Written.TheVariants.{Next, Refused}
 use Rattle.source.specs.declared.aims.Aim.{Aim}
 use Rattle.source.specs.declared.aims.Aim.TheVariants.{Nowhere, To}
-use Rattle.source.specs.Words.{instructionOf, lowest}
+use Rattle.source.specs.Words.{instruction_of, lowest}
 
 -- ---- the line of an instruction: the printer's of edition 2, whose order the parser reads
 
-abbrev pub isNoop : Instruction → Bool
-isNoop Noop = true
-isNoop (Mov d o) = false
-isNoop (MovShift r amount left imm) = false
-isNoop (Arith d o op) = false
-isNoop (ArithRegReg d a b op) = false
-isNoop (LdrStr r a store shift) = false
-isNoop (LdbStb r a store shift) = false
-isNoop (Cpy a b) = false
-isNoop (Jmp o) = false
-isNoop (CondJmp o) = false
-isNoop (Cmp r o op) = false
-isNoop (CallRet ret a) = false
+abbrev pub is_noop : Instruction → Bool
+is_noop Noop = true
+is_noop (Mov d o) = false
+is_noop (MovShift r amount left imm) = false
+is_noop (Arith d o op) = false
+is_noop (ArithRegReg d a b op) = false
+is_noop (LdrStr r a store shift) = false
+is_noop (LdbStb r a store shift) = false
+is_noop (Cpy a b) = false
+is_noop (Jmp o) = false
+is_noop (CondJmp o) = false
+is_noop (Cmp r o op) = false
+is_noop (CallRet ret a) = false
 
-unfoldable pub plainLine : Instruction → List ℕ
-plainLine i = cond (isNoop i) (bytes "DBG") (textIn Second i)
+unfoldable pub plain_line : Instruction → List ℕ
+plain_line i = cond (is_noop i) (bytes "DBG") (text_in Second i)
 
 -- ---- labels
 
 -- L and four upper-case hex digits
-unfoldable pub labelName : ℕ → List ℕ
-labelName a = bytes "L" ++ hex a
+unfoldable pub label_name : ℕ → List ℕ
+label_name a = bytes "L" ++ hex a
 
 -- an immediate jump or call, and to where
 abbrev pub jump_to : Reference → Operand → Aim
@@ -78,98 +78,98 @@ unfoldable pub inside : ℕ → ℕ → Bool
 inside n a = eqb (a % 2) 0 && ltb a (doubled n)
 
 -- the printer's names of these three
-abbrev pub referenceName : Reference → List ℕ
-referenceName reference.Jmp = bytes "JMP"
-referenceName reference.CondJmp = bytes "CJP"
-referenceName reference.Call = bytes "CALL"
+abbrev pub reference_name : Reference → List ℕ
+reference_name reference.Jmp = bytes "JMP"
+reference_name reference.CondJmp = bytes "CJP"
+reference_name reference.Call = bytes "CALL"
 
-unfoldable pub referLine : Reference → ℕ → List ℕ
-referLine r a = referenceName r ++ bytes " " ++ labelName a
+unfoldable pub refer_line : Reference → ℕ → List ℕ
+refer_line r a = reference_name r ++ bytes " " ++ label_name a
 
-unfoldable pub labelLine : ℕ → List ℕ
-labelLine a = labelName a ++ bytes ":"
+unfoldable pub label_line : ℕ → List ℕ
+label_line a = label_name a ++ bytes ":"
 
 -- ---- the lines of a program
 
 -- of n words
-abbrev pub lineBy : ℕ → Instruction → Aim → List ℕ
-lineBy n i Nowhere = plainLine i
-lineBy n i (To r a) = cond (inside n a) (referLine r a) (plainLine i)
+abbrev pub line_by : ℕ → Instruction → Aim → List ℕ
+line_by n i Nowhere = plain_line i
+line_by n i (To r a) = cond (inside n a) (refer_line r a) (plain_line i)
 
 abbrev pub line_of : ℕ → Instruction → List ℕ
-line_of n i = lineBy n i (aim_of i)
+line_of n i = line_by n i (aim_of i)
 
-abbrev pub aimsAt : ℕ → Aim → Bool
-aimsAt a Nowhere = false
-aimsAt a (To r b) = eqb b a
+abbrev pub aims_at : ℕ → Aim → Bool
+aims_at a Nowhere = false
+aims_at a (To r b) = eqb b a
 
 -- is the address used by one of these?
-abbrev pub usedBy : List Instruction → ℕ → Bool
-usedBy [] a = false
-usedBy (i ∷ xs) a = aimsAt a (aim_of i) || usedBy xs a
+abbrev pub used_by : List Instruction → ℕ → Bool
+used_by [] a = false
+used_by (i ∷ xs) a = aims_at a (aim_of i) || used_by xs a
 
 -- those from instruction k on; a label line stands just before each address that is used
 abbrev pub lines_of : (ℕ → Bool) → ℕ → ℕ → List Instruction → List (List ℕ)
 lines_of used n k [] = []
 lines_of used n k (i ∷ xs) =
-    cond (used (doubled k)) (labelLine (doubled k) ∷ line_of n i ∷ lines_of used n (k + 1) xs) (line_of n i ∷ lines_of used n (k + 1) xs)
+    cond (used (doubled k)) (label_line (doubled k) ∷ line_of n i ∷ lines_of used n (k + 1) xs) (line_of n i ∷ lines_of used n (k + 1) xs)
 
 unfoldable pub source_of : List Instruction → List ℕ
-source_of xs = ended (lines_of (usedBy xs) (length xs) 0 xs)
+source_of xs = ended (lines_of (used_by xs) (length xs) 0 xs)
 
 -- ---- the whole: the text of words, and what is answered with so many bytes of room
 
-abbrev pub sourceText : List ℕ → List ℕ
-sourceText ws = source_of (map instructionOf ws)
+abbrev pub source_text : List ℕ → List ℕ
+source_text ws = source_of (map instruction_of ws)
 
-abbrev pub sourceOrder : List ℕ → ℕ → List Refusing
-sourceOrder ws room =
+abbrev pub source_order : List ℕ → ℕ → List Refusing
+source_order ws room =
     16 when ltb 32767 (length ws)
     ∷ 33 when ltb (lowest ws) (length ws)
-    ∷ 19 when ltb room (length (sourceText ws))
+    ∷ 19 when ltb room (length (source_text ws))
     ∷ []
 
 -- how long the text is, or the refusal's number
 unfoldable pub sourced : List ℕ → ℕ → Told ℕ
-sourced ws room = passing (sourceOrder ws room) (length (sourceText ws))
+sourced ws room = passing (source_order ws room) (length (source_text ws))
 
 -- 33 has the lowest word's index with it, each other refusal 0
 pub data Answer : Type 0 where
-  length-of : ℕ → Answer
+  length_of : ℕ → Answer
   refusal : ℕ → ℕ → Answer
 
-abbrev pub answerBy : ℕ → Told ℕ → Answer
-answerBy index (is n) = length-of n
-answerBy index (no n) = refusal n (cond (eqb n 33) index 0)
+abbrev pub answer_by : ℕ → Told ℕ → Answer
+answer_by index (is n) = length_of n
+answer_by index (no n) = refusal n (cond (eqb n 33) index 0)
 
 unfoldable pub answer : List ℕ → ℕ → Answer
-answer ws room = answerBy (lowest ws) (sourced ws room)
+answer ws room = answer_by (lowest ws) (sourced ws room)
 
 abbrev pub answered : Written → Answer
-answered (Next n) = length-of n
+answered (Next n) = length_of n
 answered (Refused r index) = refusal (number_of r) index
 
 -- the buffer: a refusal writes nothing, and the bytes past the text stay
-abbrev pub bufferBy : List ℕ → List ℕ → Told ℕ → List ℕ
-bufferBy text buffer (is n) = placed text buffer 0
-bufferBy text buffer (no n) = buffer
+abbrev pub buffer_by : List ℕ → List ℕ → Told ℕ → List ℕ
+buffer_by text buffer (is n) = placed text buffer 0
+buffer_by text buffer (no n) = buffer
 
-unfoldable pub sourceBuffer : List ℕ → List ℕ → List ℕ
-sourceBuffer ws buffer = bufferBy (sourceText ws) buffer (sourced ws (length buffer))
+unfoldable pub source_buffer : List ℕ → List ℕ → List ℕ
+source_buffer ws buffer = buffer_by (source_text ws) buffer (sourced ws (length buffer))
 
 -- ---- of words as bytes, the low byte of each first: 31 before all, where there is half a word
 
-unfoldable pub byteAnswer : List ℕ → ℕ → Answer
-byteAnswer bytes room = cond (even bytes) (answer (words_in bytes) room) (refusal 31 0)
+unfoldable pub byte_answer : List ℕ → ℕ → Answer
+byte_answer bytes room = cond (even bytes) (answer (words_in bytes) room) (refusal 31 0)
 
-unfoldable pub byteBuffer : List ℕ → List ℕ → List ℕ
-byteBuffer bytes buffer = cond (even bytes) (sourceBuffer (words_in bytes) buffer) buffer
+unfoldable pub byte_buffer : List ℕ → List ℕ → List ℕ
+byte_buffer bytes buffer = cond (even bytes) (source_buffer (words_in bytes) buffer) buffer
 
 -- no text is longer (Promises.antt)
-abbrev pub longestText : ℕ
-longestText = 851942
+abbrev pub longest_text : ℕ
+longest_text = 851942
 
 -- for a caller that makes one number of both parts: a length of at most so many, or a number from 16 to 33 and an index below 32,767
 abbrev pub Small : Answer → Type 0
-Small (length-of n) = n ≤ longestText
+Small (length_of n) = n ≤ longest_text
 Small (refusal n index) = (16 ≤ n) × (n ≤ 33) × (index < 32767)

@@ -2,9 +2,9 @@
 ghost use Rattle.std.specs.Prelude.{◌≡◌, [], ◌∷◌, ◌++◌, map, ◌≤◌, length};
 ghost use Rattle.pen.specs.Pen.{pen, wrote};
 ghost use Rattle.text.specs.Lines.{ended};
-ghost use Rattle.source.specs.Words.{instructionOf};
-ghost use Rattle.source.specs.Source.{isNoop, plainLine, labelName, referenceName, referLine, lineBy, line_of, lines_of};
-ghost use Rattle.source.specs.Marks.{usedIn, labelBefore};
+ghost use Rattle.source.specs.Words.{instruction_of};
+ghost use Rattle.source.specs.Source.{is_noop, plain_line, label_name, reference_name, refer_line, line_by, line_of, lines_of};
+ghost use Rattle.source.specs.Marks.{used_in, label_before};
 
 use crate::aims::{Aim, aim_of, inside};
 use crate::marks::is_marked;
@@ -17,7 +17,7 @@ use pen::{hex, put, put_all, put_text};
 // ---- one line, without its end
 
 fn is_noop(i: Instruction) -> bool
-    ensures { result ≡ isNoop i }
+    ensures { result ≡ is_noop i }
 {
     match i {
         Instruction::Noop => true,
@@ -36,7 +36,7 @@ fn is_noop(i: Instruction) -> bool
 }
 
 fn put_plain(out: &mut [u8], at: usize, i: Instruction) -> usize
-    ensures { pen out.new result ≡ wrote (pen out.old at) (plainLine i) }
+    ensures { pen out.new result ≡ wrote (pen out.old at) (plain_line i) }
 {
     if is_noop(i) {
         return put_all(out, at, b"DBG");
@@ -45,14 +45,14 @@ fn put_plain(out: &mut [u8], at: usize, i: Instruction) -> usize
 }
 
 fn put_name(out: &mut [u8], at: usize, a: u32) -> usize
-    ensures { pen out.new result ≡ wrote (pen out.old at) (labelName a) }
+    ensures { pen out.new result ≡ wrote (pen out.old at) (label_name a) }
 {
     let p = put(out, at, b'L');
     hex(out, p, a)
 }
 
 fn put_reference_name(out: &mut [u8], at: usize, r: Reference) -> usize
-    ensures { pen out.new result ≡ wrote (pen out.old at) (referenceName r) }
+    ensures { pen out.new result ≡ wrote (pen out.old at) (reference_name r) }
 {
     match r {
         Reference::Jmp => put_all(out, at, b"JMP"),
@@ -62,7 +62,7 @@ fn put_reference_name(out: &mut [u8], at: usize, r: Reference) -> usize
 }
 
 fn put_reference(out: &mut [u8], at: usize, r: Reference, a: u16) -> usize
-    ensures { pen out.new result ≡ wrote (pen out.old at) (referLine r a) }
+    ensures { pen out.new result ≡ wrote (pen out.old at) (refer_line r a) }
 {
     let p = put_reference_name(out, at, r);
     let p = put(out, p, b' ');
@@ -71,7 +71,7 @@ fn put_reference(out: &mut [u8], at: usize, r: Reference, a: u16) -> usize
 
 // By where it aims, in a program of n words.
 fn put_line_by(out: &mut [u8], at: usize, n: usize, i: Instruction, aim: Aim) -> usize
-    ensures { pen out.new result ≡ wrote (pen out.old at) (lineBy n i aim) }
+    ensures { pen out.new result ≡ wrote (pen out.old at) (line_by n i aim) }
 {
     match aim {
         Aim::Nowhere => put_plain(out, at, i),
@@ -95,7 +95,7 @@ fn put_line(out: &mut [u8], at: usize, n: usize, i: Instruction) -> usize
 
 // Where the word is marked.
 fn put_label(out: &mut [u8], at: usize, used: &[u8], k: InstructionIndex) -> usize
-    ensures { pen out.new result ≡ wrote (pen out.old at) (labelBefore (usedIn used.now) k.0) }
+    ensures { pen out.new result ≡ wrote (pen out.old at) (label_before (used_in used.now) k.0) }
 {
     if !is_marked(used, k.0 as usize) {
         return at;
@@ -108,7 +108,7 @@ fn put_label(out: &mut [u8], at: usize, used: &[u8], k: InstructionIndex) -> usi
 // A line for each word, after a label line where the word is marked.
 pub fn put_lines(out: &mut [u8], words: &[u16], used: &[u8]) -> usize
     requires { length words.now ≤ 32767 }
-    ensures { pen out.new result ≡ wrote (pen out.old 0) (ended (lines_of (usedIn used.now) (length words.now) 0 (map instructionOf words.now))) }
+    ensures { pen out.new result ≡ wrote (pen out.old 0) (ended (lines_of (used_in used.now) (length words.now) 0 (map instruction_of words.now))) }
 {
     let mut p: usize = 0;
     let mut k: usize = 0;

@@ -1,14 +1,14 @@
 // Which addresses jumps and calls use: a mark for each word, so that none is searched for. An address has eleven bits, so there are
 // marks for the first 1,024 words.
 ghost use Rattle.std.specs.Prelude.{◌≡◌, map};
-ghost use Rattle.source.specs.Words.{instructionOf};
-ghost use Rattle.source.specs.Marks.{markedBy, marked, isMarked};
+ghost use Rattle.source.specs.Words.{instruction_of};
+ghost use Rattle.source.specs.Marks.{marked_by, marked, is_marked};
 
 use crate::aims::{Aim, aim_of};
 use crate::words::instruction_of;
 
 fn mark(used: &mut [u8], aim: Aim)
-    ensures { used.new ≡ markedBy aim used.old }
+    ensures { used.new ≡ marked_by aim used.old }
 {
     match aim {
         Aim::Nowhere => {}
@@ -24,7 +24,7 @@ fn mark(used: &mut [u8], aim: Aim)
 }
 
 pub fn mark_all(words: &[u16], used: &mut [u8])
-    ensures { used.new ≡ marked (map instructionOf words.now) used.old }
+    ensures { used.new ≡ marked (map instruction_of words.now) used.old }
 {
     let mut i: usize = 0;
     while i < words.len() {
@@ -34,7 +34,7 @@ pub fn mark_all(words: &[u16], used: &mut [u8])
 }
 
 pub fn is_marked(used: &[u8], k: usize) -> bool
-    ensures { result ≡ isMarked used.now k }
+    ensures { result ≡ is_marked used.now k }
 {
     if k < used.len() {
         return used[k] == 1;

@@ -1,6 +1,6 @@
 // The text of words into a lent buffer.
 ghost use Rattle.std.specs.Prelude.{◌≡◌, ◌%◌, length};
-ghost use Rattle.source.specs.Source.{answered, answer, sourceBuffer, byteAnswer, byteBuffer, Small};
+ghost use Rattle.source.specs.Source.{answered, answer, source_buffer, byte_answer, byte_buffer, Small};
 
 use crate::Written;
 use crate::lines::put_lines;
@@ -13,7 +13,7 @@ use wordbytes::read_words;
 // bytes past the text stay. With 851,942 bytes there is room for every text.
 pub fn text(words: &[u16], out: &mut [u8]) -> Written
     ensures result_value { answered result ≡ answer words.now (length out.old) }
-    ensures out_after { out.new ≡ sourceBuffer words.now out.old }
+    ensures out_after { out.new ≡ source_buffer words.now out.old }
 {
     if 32767 < words.len() {
         return Written::Refused(Refusal::TooLong, 0);
@@ -37,8 +37,8 @@ pub fn text(words: &[u16], out: &mut [u8]) -> Written
 fn read_text(bytes: &[u8], own: &mut [u16], out: &mut [u8]) -> Written
     requires own_len { length own.old ≡ 32767 }
     requires bytes_len { length bytes.now % 2 ≡ 0 }
-    ensures result_value { answered result ≡ byteAnswer bytes.now (length out.old) }
-    ensures out_after { out.new ≡ byteBuffer bytes.now out.old }
+    ensures result_value { answered result ≡ byte_answer bytes.now (length out.old) }
+    ensures out_after { out.new ≡ byte_buffer bytes.now out.old }
     ensures small { Small (answered result) }
 {
     let n = bytes.len() / 2;
@@ -51,8 +51,8 @@ fn read_text(bytes: &[u8], own: &mut [u16], out: &mut [u8]) -> Written
 
 // As `text`, of words as bytes, the low byte of each first: 31 before all, where there is half a word.
 pub fn text_of_bytes(bytes: &[u8], out: &mut [u8]) -> Written
-    ensures result_value { answered result ≡ byteAnswer bytes.now (length out.old) }
-    ensures out_after { out.new ≡ byteBuffer bytes.now out.old }
+    ensures result_value { answered result ≡ byte_answer bytes.now (length out.old) }
+    ensures out_after { out.new ≡ byte_buffer bytes.now out.old }
     ensures small { Small (answered result) }
 {
     if bytes.len() % 2 != 0 {

@@ -1,12 +1,12 @@
 // What a word says, and whether it has a text.
 ghost use Rattle.std.specs.Prelude.{◌≡◌};
 ghost use Rattle.base.specs.Told.{is};
-ghost use Rattle.source.specs.Words.{instructionOf, isSaid, hasText, lowest};
+ghost use Rattle.source.specs.Words.{instruction_of, is_said, has_text, lowest};
 
 use instruction::{Decoded, Edition, Instruction, decode_in, encode, sayable};
 
 pub fn instruction_of(w: u16) -> Instruction
-    ensures { result ≡ instructionOf w }
+    ensures { result ≡ instruction_of w }
 {
     let d = decode_in(Edition::Second, w);
     match d {
@@ -17,7 +17,7 @@ pub fn instruction_of(w: u16) -> Instruction
 
 // Is it the very word of the instruction, and does a line say that?
 fn is_said(w: u16, i: Instruction) -> bool
-    ensures { result ≡ isSaid w (is i) }
+    ensures { result ≡ is_said w (is i) }
 {
     if encode(i) == w {
         return sayable(i);
@@ -26,7 +26,7 @@ fn is_said(w: u16, i: Instruction) -> bool
 }
 
 fn has_text(w: u16) -> bool
-    ensures { result ≡ hasText w }
+    ensures { result ≡ has_text w }
 {
     let d = decode_in(Edition::Second, w);
     match d {

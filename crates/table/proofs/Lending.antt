@@ -6,11 +6,11 @@
 -- Several slices, by induction over their list, each lent again for a lifetime and under a name of its own:
 --     Slot             a slice: what its elements are, the loan's lifetime and the share of its token, and the slice as it was passed
 --     Lists, Loans     a list for each slice; a lifetime and a name for each.        Fit, Rooms     each list has its slice's length; each slice's bytes can be counted
---     Owned-all, Lent-all, Kept-all        as for one slice
+--     OwnedAll, LentAll, KeptAll        as for one slice
 --     Tokens, Living   the tokens of the slices' own lifetimes, and of the new ones
 --     Ends             what the callee's contract says of the lists at its end
---     lends-all        Owned-all ∗ Tokens  ⊢ ⇛ ∃ νs. (Lent-all νs ∗ Living νs) ∗ Kept-all νs
---     back-all         Living ∗ Kept-all ∗ Ends  ⊢ ⇛ (Owned-all ∗ Tokens at the new lists, and those are as long as the old)
+--     lends-all        OwnedAll ∗ Tokens  ⊢ ⇛ ∃ νs. (LentAll νs ∗ Living νs) ∗ KeptAll νs
+--     back-all         Living ∗ KeptAll ∗ Ends  ⊢ ⇛ (OwnedAll ∗ Tokens at the new lists, and those are as long as the old)
 -- Assumes `Logic`.
 use mathlib.Core.Path.{◌≡◌, ◌∙◌, sym, subst}
 use Prim.Native.Nat.{ℕ}
@@ -96,25 +96,25 @@ val s = value s.of s.at
 abbrev pub lent_at : (s : Slot) → GName → List s.of.Denot → MutBor (List s.of.Denot)
 lent_at s δ ys = at-list s.of s.at δ ys
 
-abbrev pub Owned-all : (ss : List Slot) → Lists ss → Fml
-Owned-all [] yss = ftrue
-Owned-all (s ∷ ss) yss = fsep (Owned s.of s.at s.lft yss.0) (Owned-all ss yss.1)
+abbrev pub OwnedAll : (ss : List Slot) → Lists ss → Fml
+OwnedAll [] yss = ftrue
+OwnedAll (s ∷ ss) yss = fsep (Owned s.of s.at s.lft yss.0) (OwnedAll ss yss.1)
 
 abbrev pub Tokens : List Slot → Fml
 Tokens [] = ftrue
 Tokens (s ∷ ss) = fsep (flft s.lft s.share) (Tokens ss)
 
-abbrev pub Lent-all : (ss : List Slot) → Loans ss → Lists ss → Fml
-Lent-all [] νs yss = ftrue
-Lent-all (s ∷ ss) νs yss = fsep (Lent s.of s.at νs.0.0 νs.0.1 yss.0) (Lent-all ss νs.1 yss.1)
+abbrev pub LentAll : (ss : List Slot) → Loans ss → Lists ss → Fml
+LentAll [] νs yss = ftrue
+LentAll (s ∷ ss) νs yss = fsep (Lent s.of s.at νs.0.0 νs.0.1 yss.0) (LentAll ss νs.1 yss.1)
 
 abbrev pub Living : (ss : List Slot) → Loans ss → Fml
 Living [] νs = ftrue
 Living (s ∷ ss) νs = fsep (flft (νs.0.0 ∷ []) full_share) (Living ss νs.1)
 
-abbrev pub Kept-all : (ss : List Slot) → Loans ss → Lists ss → Fml
-Kept-all [] νs yss = ftrue
-Kept-all (s ∷ ss) νs yss = fsep (Kept s.of s.at s.lft s.share νs.0.0 νs.0.1 yss.0) (Kept-all ss νs.1 yss.1)
+abbrev pub KeptAll : (ss : List Slot) → Loans ss → Lists ss → Fml
+KeptAll [] νs yss = ftrue
+KeptAll (s ∷ ss) νs yss = fsep (Kept s.of s.at s.lft s.share νs.0.0 νs.0.1 yss.0) (KeptAll ss νs.1 yss.1)
 
 abbrev pub Ends : (ss : List Slot) → Loans ss → Lists ss → Lists ss → Fml
 Ends [] νs yss zss = ftrue
@@ -123,32 +123,32 @@ Ends (s ∷ ss) νs yss zss = fsep (fsep (finally s.of νs.0.1 zss.0) (feq ℕ (
 module _ {M : Type 1} {𝓤 : Ura M} (𝓛 : Logic 𝓤) where
   open 𝓛 use {H}
 
-  pub lends-all : (ss : List Slot) (yss : Lists ss) → Fit ss yss → ent 𝓤 (sep 𝓤 (sem 𝓛 (Owned-all ss yss)) (sem 𝓛 (Tokens ss)))
-      (H.⇛ (ex 𝓤 (λ (νs : Loans ss). sep 𝓤 (sep 𝓤 (sem 𝓛 (Lent-all ss νs yss)) (sem 𝓛 (Living ss νs))) (sem 𝓛 (Kept-all ss νs yss)))))
+  pub lends-all : (ss : List Slot) (yss : Lists ss) → Fit ss yss → ent 𝓤 (sep 𝓤 (sem 𝓛 (OwnedAll ss yss)) (sem 𝓛 (Tokens ss)))
+      (H.⇛ (ex 𝓤 (λ (νs : Loans ss). sep 𝓤 (sep 𝓤 (sem 𝓛 (LentAll ss νs yss)) (sem 𝓛 (Living ss νs))) (sem 𝓛 (KeptAll ss νs yss)))))
   lends-all [] yss f =
       qed 𝓛 (‵ ftrue ∷ ‵ ftrue ∷ []) ∵ updating ! $ at_once ! $ nothing ! $
       show ! (λ (νs : Unit {0}). sep 𝓤 (sep 𝓤 (sem 𝓛 ftrue) (sem 𝓛 ftrue)) (sem 𝓛 ftrue)) tt $ join ! $ frame ! $ done !
   lends-all (s ∷ ss) yss f =
-      qed 𝓛 (‵ (Owned-all (s ∷ ss) yss) ∷ ‵ (Tokens (s ∷ ss)) ∷ []) ∵ updating ! $ fsplit ! $ move ! (2 ∷ []) $ fsplit ! $
+      qed 𝓛 (‵ (OwnedAll (s ∷ ss) yss) ∷ ‵ (Tokens (s ∷ ss)) ∷ []) ∵ updating ! $ fsplit ! $ move ! (2 ∷ []) $ fsplit ! $
       -- [the token; the others' tokens; the slice; the others]
       move ! (2 ∷ 0 ∷ []) $ lft_new ! tt (λ ν. move ! (1 ∷ 2 ∷ []) $
       use2 𝓛 (later (some (λ (δ : GName). ‵ (Lent s.of s.at ν δ yss.0) ⊛ ‵ (Kept s.of s.at s.lft s.share ν δ yss.0)))) (lends s.of s.at 𝓛 s.lft s.share ν yss.0 f.0) $ await ! tt $ pick ! (λ δ. split ! $
       -- [the slice lent; what is kept of it; the new token; the others' tokens; the others]
-      move ! (4 ∷ 3 ∷ []) $ use2 𝓛 (later (some (λ (νs : Loans ss). (‵ (Lent-all ss νs yss.1) ⊛ ‵ (Living ss νs)) ⊛ ‵ (Kept-all ss νs yss.1)))) (lends-all ss yss.1 f.1) $ await ! tt $ pick ! (λ νs. split ! $ split ! $
+      move ! (4 ∷ 3 ∷ []) $ use2 𝓛 (later (some (λ (νs : Loans ss). (‵ (LentAll ss νs yss.1) ⊛ ‵ (Living ss νs)) ⊛ ‵ (KeptAll ss νs yss.1)))) (lends-all ss yss.1 f.1) $ await ! tt $ pick ! (λ νs. split ! $ split ! $
       -- [the others lent; their new tokens; what is kept of them; the slice lent; what is kept of it; the new token]
-      at_once ! $ show ! (λ (ηs : Loans (s ∷ ss)). sep 𝓤 (sep 𝓤 (sem 𝓛 (Lent-all (s ∷ ss) ηs yss)) (sem 𝓛 (Living (s ∷ ss) ηs))) (sem 𝓛 (Kept-all (s ∷ ss) ηs yss))) ((ν, δ), νs) $
+      at_once ! $ show ! (λ (ηs : Loans (s ∷ ss)). sep 𝓤 (sep 𝓤 (sem 𝓛 (LentAll (s ∷ ss) ηs yss)) (sem 𝓛 (Living (s ∷ ss) ηs))) (sem 𝓛 (KeptAll (s ∷ ss) ηs yss))) ((ν, δ), νs) $
       move ! (3 ∷ 0 ∷ []) $ fjoin ! $ move ! (4 ∷ 1 ∷ []) $ fjoin ! $ move ! (1 ∷ 0 ∷ []) $ join ! $ frame ! $ move ! (1 ∷ 0 ∷ []) $ fjoin ! $ done !)))
 
-  pub back-all : (ss : List Slot) (νs : Loans ss) (yss zss : Lists ss) → Rooms ss → Fit ss yss → ent 𝓤 (sep 𝓤 (sem 𝓛 (Living ss νs)) (sep 𝓤 (sem 𝓛 (Kept-all ss νs yss)) (sem 𝓛 (Ends ss νs yss zss))))
-      (H.⇛ (sep 𝓤 (sep 𝓤 (sem 𝓛 (Owned-all ss zss)) (sem 𝓛 (Tokens ss))) (fact 𝓤 (Fit ss zss))))
+  pub back-all : (ss : List Slot) (νs : Loans ss) (yss zss : Lists ss) → Rooms ss → Fit ss yss → ent 𝓤 (sep 𝓤 (sem 𝓛 (Living ss νs)) (sep 𝓤 (sem 𝓛 (KeptAll ss νs yss)) (sem 𝓛 (Ends ss νs yss zss))))
+      (H.⇛ (sep 𝓤 (sep 𝓤 (sem 𝓛 (OwnedAll ss zss)) (sem 𝓛 (Tokens ss))) (fact 𝓤 (Fit ss zss))))
   back-all [] νs yss zss room f = qed 𝓛 (‵ ftrue ∷ ‵ ftrue ∷ ‵ ftrue ∷ []) ∵ updating ! $ at_once ! $ says ! tt $ keep ! (1 ∷ 2 ∷ []) $ frame ! $ done !
   back-all (s ∷ ss) νs yss zss room f =
-      qed 𝓛 (‵ (Living (s ∷ ss) νs) ∷ ‵ (Kept-all (s ∷ ss) νs yss) ∷ ‵ (Ends (s ∷ ss) νs yss zss) ∷ []) ∵ updating ! $
+      qed 𝓛 (‵ (Living (s ∷ ss) νs) ∷ ‵ (KeptAll (s ∷ ss) νs yss) ∷ ‵ (Ends (s ∷ ss) νs yss zss) ∷ []) ∵ updating ! $
       fsplit ! $ lft_end ! tt $ move ! (3 ∷ []) $ fsplit ! $ fsplit ! $ move ! (1 ∷ []) $ feq_l ! (λ l.
       -- [the slice's end; the others' ends; dead; the others' tokens; what is kept]
       move ! (4 ∷ []) $ fsplit ! $ move ! (4 ∷ 0 ∷ 2 ∷ []) $
       use3 𝓛 (later (‵ (Owned s.of s.at s.lft zss.0) ⊛ ‵ (flft s.lft s.share))) (back s.of s.at 𝓛 s.lft s.share νs.0.0 yss.0 f.0 νs.0.1 zss.0 room.0 l) $ await ! tt $ split ! $
       -- [the slice; its token; what is kept of the others; their ends; their tokens]
-      move ! (4 ∷ 2 ∷ 3 ∷ []) $ use3 𝓛 (later ((‵ (Owned-all ss zss.1) ⊛ ‵ (Tokens ss)) ⊛ raw (fact 𝓤 (Fit ss zss.1)))) (back-all ss νs.1 yss.1 zss.1 room.1 f.1) $ await ! tt $ split ! $
+      move ! (4 ∷ 2 ∷ 3 ∷ []) $ use3 𝓛 (later ((‵ (OwnedAll ss zss.1) ⊛ ‵ (Tokens ss)) ⊛ raw (fact 𝓤 (Fit ss zss.1)))) (back-all ss νs.1 yss.1 zss.1 room.1 f.1) $ await ! tt $ split ! $
       move ! (1 ∷ []) $ heard ! (Fit ss zss.1) (λ g. split ! $
       at_once ! $ says ! (l ∙ f.0, g) $ move ! (2 ∷ 0 ∷ []) $ fjoin ! $ frame ! $ move ! (1 ∷ 0 ∷ []) $ fjoin ! $ done !))

@@ -106,10 +106,10 @@ module _ (R : RattleType) (n b : ℕ) where
     row-lends ℓ κ m ys e room =
         subst (λ (k : ℕ). Room R k → ent 𝓤 (sem 𝓛 (Elements ys 0)) (H.⇛ (Loan ℓ κ k ys))) e (lends_slice 𝓛 R ℓ κ ys b 0) room
 
-    abbrev Loan-shr : Lifetime → Lft → List R.Denot → SProp 𝓤
-    Loan-shr ℓ κ ys = ex 𝓤 (λ (γ : GName). sep 𝓤 (sem 𝓛 ((ShrSlice ℓ κ R).own_val (at-list γ ys) (vals n))) (A.lent κ (Whole ys)))
+    abbrev LoanShr : Lifetime → Lft → List R.Denot → SProp 𝓤
+    LoanShr ℓ κ ys = ex 𝓤 (λ (γ : GName). sep 𝓤 (sem 𝓛 ((ShrSlice ℓ κ R).own_val (at-list γ ys) (vals n))) (A.lent κ (Whole ys)))
 
-    row_shows : (ℓ : Lifetime) (κ : Lft) (ys : List R.Denot) → length ys ≡ n → Room R n → ent 𝓤 (sem 𝓛 (Elements ys 0)) (H.⇛ (Loan-shr ℓ κ ys))
+    row_shows : (ℓ : Lifetime) (κ : Lft) (ys : List R.Denot) → length ys ≡ n → Room R n → ent 𝓤 (sem 𝓛 (Elements ys 0)) (H.⇛ (LoanShr ℓ κ ys))
     row_shows ℓ κ ys e room =
         qed 𝓛 (‵ (Elements ys 0) ∷ []) ∵ updating ! $ use1 𝓛 (‵ (row R full_share ys b 0)) (whole_out 𝓛 R ys b 0) $ feq_i ! ℕ (length ys) (length ys) refl $ fjoin ! $
         use1 𝓛 (later (some (λ (δ : GName). ‵ ((ShrSlice ℓ κ R).own_val (at-list δ ys) (vals (length ys))) ⊛ ‵ (flent κ ((arr_parts (shares R) (length ys)).part full_share ys b 0))))) (lends_shr_slice 𝓛 R ℓ κ full_share ys b 0 (subst (Room R) (sym e) room)) $ await ! tt $ pick ! (λ δ. split ! $
@@ -122,11 +122,11 @@ module _ (R : RattleType) (n b : ℕ) where
         qed 𝓛 (‵ (fat full_share τ b 0 (array_val us)) ∷ ‵ ((Array R n).own_val ys (array_val us ∷ [])) ∷ []) ∵ use2 𝓛 (‵ (Whole ys)) (in_memory one us ys) $ fsplit ! $ feq_l ! (λ e.
         use1 𝓛 (‵ (Elements ys 0)) (whole_in 𝓛 R ys b 0) $ by ! (row-lends ℓ κ n ys e room))
 
-    abbrev Loan-first : Lifetime → Lft → ℕ → List R.Denot → List R.Denot → SProp 𝓤
-    Loan-first ℓ κ m xs rest = ex 𝓤 (λ (γ : GName). sep 𝓤 (sem 𝓛 ((MutSlice ℓ κ R).own_val (at-list γ xs) (vals m))) (sep 𝓤 (A.lent κ (Held R m b 0 γ)) (sem 𝓛 (Behind m rest))))
+    abbrev LoanFirst : Lifetime → Lft → ℕ → List R.Denot → List R.Denot → SProp 𝓤
+    LoanFirst ℓ κ m xs rest = ex 𝓤 (λ (γ : GName). sep 𝓤 (sem 𝓛 ((MutSlice ℓ κ R).own_val (at-list γ xs) (vals m))) (sep 𝓤 (A.lent κ (Held R m b 0 γ)) (sem 𝓛 (Behind m rest))))
 
     pub lends_first : Single R.mir → (ℓ : Lifetime) (κ : Lft) (us : List Val) (m : ℕ) (xs rest : List R.Denot) → length xs ≡ m → Room R m
-        → ent 𝓤 (sep 𝓤 (H.at full_share τ b 0 (array_val us)) (sem 𝓛 ((Array R n).own_val (xs ++ rest) (array_val us ∷ [])))) (H.⇛ (Loan-first ℓ κ m xs rest))
+        → ent 𝓤 (sep 𝓤 (H.at full_share τ b 0 (array_val us)) (sem 𝓛 ((Array R n).own_val (xs ++ rest) (array_val us ∷ [])))) (H.⇛ (LoanFirst ℓ κ m xs rest))
     lends_first one ℓ κ us m xs rest e few =
         qed 𝓛 (‵ (fat full_share τ b 0 (array_val us)) ∷ ‵ ((Array R n).own_val (xs ++ rest) (array_val us ∷ [])) ∷ []) ∵ updating ! $ use2 𝓛 (‵ (Whole (xs ++ rest))) (in_memory one us (xs ++ rest)) $ fsplit ! $ drop ! $
         use1 𝓛 (‵ (Elements (xs ++ rest) 0)) (whole_in 𝓛 R (xs ++ rest) b 0) $ use1 𝓛 (‵ (Elements xs 0) ⊛ ‵ (Elements rest (place (mem R).size 0 (length xs)))) (apart xs rest 0) $ split ! $
@@ -134,13 +134,13 @@ module _ (R : RattleType) (n b : ℕ) where
         rewrite ! 2 (λ (k : ℕ). ‵ (Behind k rest)) e refl $
         at_once ! $ show ! (λ (δ : GName). sep 𝓤 (sem 𝓛 ((MutSlice ℓ κ R).own_val (at-list δ xs) (vals m))) (sep 𝓤 (A.lent κ (Held R m b 0 δ)) (sem 𝓛 (Behind m rest)))) γ $ done !)
 
-    pub lends-on : Room R n → (ℓ : Lifetime) (κ κ' : Lft) (γ : GName) (ys : List R.Denot) → ent 𝓤 (sep 𝓤 (A.dead κ) (sep 𝓤 (A.lent κ (Held R n b 0 γ)) (sem 𝓛 (finally R γ ys)))) (H.⇛ (Loan-shr ℓ κ' ys))
+    pub lends-on : Room R n → (ℓ : Lifetime) (κ κ' : Lft) (γ : GName) (ys : List R.Denot) → ent 𝓤 (sep 𝓤 (A.dead κ) (sep 𝓤 (A.lent κ (Held R n b 0 γ)) (sem 𝓛 (finally R γ ys)))) (H.⇛ (LoanShr ℓ κ' ys))
     lends-on room ℓ κ κ' γ ys =
         qed 𝓛 (‵ (fdead κ) ∷ ‵ (flent κ (Held R n b 0 γ)) ∷ ‵ (finally R γ ys) ∷ []) ∵ updating ! $ use3 𝓛 (later (‵ ((Arr (mem R) n).own_at ys b 0))) (slice_back 𝓛 R κ γ ys n b 0) $ await ! tt $ fsplit ! $ feq_l ! (λ e.
         by ! (row_shows ℓ κ' ys e room))
 
     pub lends-whole : Room R n → (ℓ : Lifetime) (κ κ' : Lft) (γ : GName) (m : ℕ) (ys rest : List R.Denot) → m + length rest ≡ n
-        → ent 𝓤 (sep 𝓤 (A.dead κ) (sep 𝓤 (A.lent κ (Held R m b 0 γ)) (sep 𝓤 (sem 𝓛 (finally R γ ys)) (sem 𝓛 (Behind m rest))))) (H.⇛ (Loan-shr ℓ κ' (ys ++ rest)))
+        → ent 𝓤 (sep 𝓤 (A.dead κ) (sep 𝓤 (A.lent κ (Held R m b 0 γ)) (sep 𝓤 (sem 𝓛 (finally R γ ys)) (sem 𝓛 (Behind m rest))))) (H.⇛ (LoanShr ℓ κ' (ys ++ rest)))
     lends-whole room ℓ κ κ' γ m ys rest total =
         qed 𝓛 (‵ (fdead κ) ∷ ‵ (flent κ (Held R m b 0 γ)) ∷ ‵ (finally R γ ys) ∷ ‵ (Behind m rest) ∷ []) ∵ updating ! $ use3 𝓛 (later (‵ ((Arr (mem R) m).own_at ys b 0))) (slice_back 𝓛 R κ γ ys m b 0) $ await ! tt $ fsplit ! $ feq_l ! (λ e.
         rewrite ! 1 (λ (k : ℕ). ‵ (Behind k rest)) (sym e) refl $ use2 𝓛 (‵ (Elements (ys ++ rest) 0)) (together ys rest 0) $

@@ -1,12 +1,12 @@
 // What one entry says of a name.
 ghost use Rattle.std.specs.Prelude.{◌≡◌, min};
-ghost use Rattle.table.specs.Table.{foundAt, looksOn};
+ghost use Rattle.table.specs.Table.{found_at, looks_on};
 
 use labels::{Found, Label, names};
 
 // Entry i and its address, where it has the name.
 pub fn found_at(text: &[u8], i: usize, l: Label, name: &[u8]) -> Found
-    ensures { result ≡ foundAt text.now name.now i l }
+    ensures { result ≡ found_at text.now name.now i l }
 {
     if names(text, l.place, l.length, name) {
         Found::At(i, l.address)
@@ -17,7 +17,7 @@ pub fn found_at(text: &[u8], i: usize, l: Label, name: &[u8]) -> Found
 
 // Is there an entry i among n to look at, and nothing found yet?
 pub fn looks_on(i: usize, n: usize, f: Found) -> bool
-    ensures { result ≡ looksOn i n f }
+    ensures { result ≡ looks_on i n f }
 {
     match f {
         Found::Nothing => i < n,

@@ -10,7 +10,7 @@ use lib.Dec.{eqb, leb}
 use lib.ListN.{length, length-append}
 use Rattle.base.specs.Choice.{cond}
 use Rattle.base.proofs.Tests.{clash}
-use Rattle.text.specs.Parts.{isBlank, dropEnd, keepIf}
+use Rattle.text.specs.Parts.{is_blank, drop_end, keep_if}
 use Rattle.text.specs.Tokens.{tokens}
 
 -- tokens with one space between them
@@ -65,8 +65,8 @@ ranged b e = go (leb 33 b) (leb b 57) (leb 65 b) (leb b 93) refl refl refl refl 
     go true false false s a c d f e = clash e
     go false q r s a c d f e = clash e
 
-pub plain-black : (b : ℕ) → is_plain b ≡ true → isBlank b ≡ false
-unfolding isBlank
+pub plain-black : (b : ℕ) → is_plain b ≡ true → is_blank b ≡ false
+unfolding is_blank
 plain-black b e =
     let r = ranged b e in
     let l = r.low in
@@ -86,8 +86,8 @@ plain-semicolon b e = ne_eqb b 59 (ranged b e).semicolon
 
 -- ---- tokens
 
-space : isBlank 32 ≡ true
-unfolding isBlank
+space : is_blank 32 ≡ true
+unfolding is_blank
 space = refl
 
 -- a word before a space is a token
@@ -122,17 +122,17 @@ tokens-joined ((x ∷ xs) ∷ u ∷ ts) h = token-space x xs (joined (u ∷ ts))
 -- ---- trimming it
 
 -- the last byte passes no test that plain bytes don't pass
-pub end_kept : (p : ℕ → Bool) → ((b : ℕ) → is_plain b ≡ true → p b ≡ false) → (x : ℕ) (xs : List ℕ) → every is_plain (x ∷ xs) ≡ true → dropEnd p (x ∷ xs) ≡ x ∷ xs
+pub end_kept : (p : ℕ → Bool) → ((b : ℕ) → is_plain b ≡ true → p b ≡ false) → (x : ℕ) (xs : List ℕ) → every is_plain (x ∷ xs) ≡ true → drop_end p (x ∷ xs) ≡ x ∷ xs
 end_kept p k x [] e = rw (k x (every-parts is_plain x [] e).0)
 end_kept p k x (y ∷ ys) e =
     let h = every-parts is_plain x (y ∷ ys) e in
     rw (end_kept p k y ys h.1)
 
-end-cons : (p : ℕ → Bool) (x : ℕ) (xs : List ℕ) → 0 < length xs → dropEnd p xs ≡ xs → dropEnd p (x ∷ xs) ≡ x ∷ xs
+end-cons : (p : ℕ → Bool) (x : ℕ) (xs : List ℕ) → 0 < length xs → drop_end p xs ≡ xs → drop_end p (x ∷ xs) ≡ x ∷ xs
 end-cons p x [] h e = absurd (omega arith)
-end-cons p x (y ∷ ys) h e = ap (keepIf (p x) x) e
+end-cons p x (y ∷ ys) h e = ap (keep_if (p x) x) e
 
-pub end-front : (p : ℕ → Bool) (xs ys : List ℕ) → 0 < length ys → dropEnd p ys ≡ ys → dropEnd p (xs ++ ys) ≡ xs ++ ys
+pub end-front : (p : ℕ → Bool) (xs ys : List ℕ) → 0 < length ys → drop_end p ys ≡ ys → drop_end p (xs ++ ys) ≡ xs ++ ys
 end-front p [] ys h e = e
 end-front p (x ∷ xs) ys h e = end-cons p x (xs ++ ys) (omega (arith, length-append xs ys)) (end-front p xs ys h e)
 
@@ -141,7 +141,7 @@ some-joined [] ts h = absurd h
 some-joined (x ∷ xs) [] h = omega arith
 some-joined (x ∷ xs) (u ∷ ts) h = omega arith
 
-pub joined-kept : (p : ℕ → Bool) → ((b : ℕ) → is_plain b ≡ true → p b ≡ false) → (ts : List (List ℕ)) → Plains ts → dropEnd p (joined ts) ≡ joined ts
+pub joined-kept : (p : ℕ → Bool) → ((b : ℕ) → is_plain b ≡ true → p b ≡ false) → (ts : List (List ℕ)) → Plains ts → drop_end p (joined ts) ≡ joined ts
 joined-kept p k [] h = refl
 joined-kept p k ([] ∷ ts) h = absurd h
 joined-kept p k ((x ∷ xs) ∷ []) h = end_kept p k x xs h.0
@@ -150,8 +150,8 @@ joined-kept p k ((x ∷ xs) ∷ u ∷ ts) h =
     end-front p (x ∷ xs) (32 ∷ j) (omega arith) (end-cons p 32 j (some-joined u ts h.1) (joined-kept p k (u ∷ ts) h.1))
 
 -- a colon is no blank
-pub colon-kept : dropEnd isBlank (58 ∷ []) ≡ 58 ∷ []
-unfolding isBlank
+pub colon-kept : drop_end is_blank (58 ∷ []) ≡ 58 ∷ []
+unfolding is_blank
 colon-kept = refl
 
 -- the first byte of a line

@@ -11,7 +11,7 @@ use Rattle.base.specs.Told.{Told, is, no}
 use Rattle.base.specs.Numbers.{number_of}
 use Rattle.base.proofs.Laws.{number-one}
 use Rattle.base.proofs.ToldLaws.{is-not-no, is_one, no_one}
-use Rattle.text.specs.Immediates.{told, allDigits, valueFrom, at_most, digits, afterPlus, isHex, value_of, immediate}
+use Rattle.text.specs.Immediates.{told, all_digits, value_from, at_most, digits, after_plus, is_hex, value_of, immediate}
 use Rattle.text.specs.declared.Immediate.{Immediate}
 use Rattle.text.specs.declared.Immediate.TheVariants.{Is, Refused}
 
@@ -30,14 +30,14 @@ at-most-by n = by-either (leb n 65535) (is n) (no 24) tt refl
 digits-by : (base : ℕ) (xs : List ℕ) → By24 (digits base xs)
 digits-by base [] = refl
 digits-by base (x ∷ xs) =
-    by-either (allDigits base (x ∷ xs)) (at_most (valueFrom base 0 (x ∷ xs))) (no 24) (at-most-by (valueFrom base 0 (x ∷ xs))) refl
+    by-either (all_digits base (x ∷ xs)) (at_most (value_from base 0 (x ∷ xs))) (no 24) (at-most-by (value_from base 0 (x ∷ xs))) refl
 
 immediate-by : (t : List ℕ) → By24 (immediate t)
 unfolding immediate
 immediate-by [] = refl
 immediate-by (x ∷ xs) =
     by-either (eqb x 35) (value_of xs) (no 24)
-    (by-either (isHex xs) (digits 16 (afterPlus (drop 2 xs))) (digits 10 (afterPlus xs)) (digits-by 16 (afterPlus (drop 2 xs))) (digits-by 10 (afterPlus xs)))
+    (by-either (is_hex xs) (digits 16 (after_plus (drop 2 xs))) (digits 10 (after_plus xs)) (digits-by 16 (after_plus (drop 2 xs))) (digits-by 10 (after_plus xs)))
     refl
 
 pub immediate-refused : (t : List ℕ) (n : ℕ) → immediate t ≡ no n → n ≡ 24

@@ -8,22 +8,22 @@ use mathlib.Core.List.{List, [], ◌∷◌}
 use mathlib.Core.Path.{◌∙◌, ◌≡◌, refl}
 use native.Mathlib.Numerals.{add-one}
 use native.Mathlib.Omega.{arith}
-use Rattle.text.specs.Lines.{lines, notEnd}
+use Rattle.text.specs.Lines.{lines, not_end}
 use Rattle.text.specs.Parts.{run}
 
-line_first : (xs : List ℕ) → 0 < length xs → lines xs ≡ take (run notEnd xs) xs ∷ lines (drop (suc (run notEnd xs)) xs)
+line_first : (xs : List ℕ) → 0 < length xs → lines xs ≡ take (run not_end xs) xs ∷ lines (drop (suc (run not_end xs)) xs)
 line_first [] h = absurd (omega arith)
 line_first (x ∷ xs) h = cases xs (eqb x 10) refl (line_first xs)
   where
-    cases : (ys : List ℕ) (t : Bool) → eqb x 10 ≡ t → (0 < length ys → lines ys ≡ take (run notEnd ys) ys ∷ lines (drop (suc (run notEnd ys)) ys)) →
-        lines (x ∷ ys) ≡ take (run notEnd (x ∷ ys)) (x ∷ ys) ∷ lines (drop (suc (run notEnd (x ∷ ys))) (x ∷ ys))
+    cases : (ys : List ℕ) (t : Bool) → eqb x 10 ≡ t → (0 < length ys → lines ys ≡ take (run not_end ys) ys ∷ lines (drop (suc (run not_end ys)) ys)) →
+        lines (x ∷ ys) ≡ take (run not_end (x ∷ ys)) (x ∷ ys) ∷ lines (drop (suc (run not_end (x ∷ ys))) (x ∷ ys))
     cases ys true q ih = rw q
     cases [] false q ih = rw q
     cases (y ∷ ys) false q ih = rw (q, ih (omega arith))
 
-pub line-at : (s : List ℕ) (i e : ℕ) → i < length s → e ≡ i + run notEnd (drop i s) → lines (drop i s) ≡ take (e - i) (drop i s) ∷ lines (drop (e + 1) s)
+pub line-at : (s : List ℕ) (i e : ℕ) → i < length s → e ≡ i + run not_end (drop i s) → lines (drop i s) ≡ take (e - i) (drop i s) ∷ lines (drop (e + 1) s)
 line-at s i e h q =
-    let n = run notEnd (drop i s) in
+    let n = run not_end (drop i s) in
     let l : 0 < length (drop i s) = omega (arith, length-drop i s) in
     let a : e - i ≡ n = omega arith in
     let b : i + suc n ≡ e + 1 = omega (arith, add-one n) in

@@ -11,7 +11,7 @@ use native.Mathlib.Omega.{arith}
 use Rattle.base.proofs.SameLaws.{same-equal, same_self}
 use Rattle.base.specs.Bytes.{same}
 use Rattle.base.specs.Choice.{cond}
-use Rattle.text.specs.Parts.{dropEnd, keepIf, run}
+use Rattle.text.specs.Parts.{drop_end, keep_if, run}
 
 module _ (p : ℕ → Bool) (s : List ℕ) (i : ℕ) where
   pub run_step : i < length s → p (get_or s i 0) ≡ true → run p (drop i s) ≡ suc (run p (drop (i + 1) s))
@@ -62,11 +62,11 @@ pub rest : (a : ℕ) (s : List ℕ) → take (length s - a) (drop a s) ≡ drop 
 rest a s = take_all (length s - a) (drop a s) (omega (arith, length-drop a s))
 
 -- what dropping at the end leaves, with one byte more
-pub snoc-drops : (p : ℕ → Bool) (xs : List ℕ) (y : ℕ) → p y ≡ true → dropEnd p (xs ++ (y ∷ [])) ≡ dropEnd p xs
+pub snoc-drops : (p : ℕ → Bool) (xs : List ℕ) (y : ℕ) → p y ≡ true → drop_end p (xs ++ (y ∷ [])) ≡ drop_end p xs
 snoc-drops p [] y e = rw e
-snoc-drops p (x ∷ xs) y e = ap (keepIf (p x) x) (snoc-drops p xs y e)
+snoc-drops p (x ∷ xs) y e = ap (keep_if (p x) x) (snoc-drops p xs y e)
 
-snoc-keeps : (p : ℕ → Bool) (xs : List ℕ) (y : ℕ) → p y ≡ false → dropEnd p (xs ++ (y ∷ [])) ≡ xs ++ (y ∷ [])
+snoc-keeps : (p : ℕ → Bool) (xs : List ℕ) (y : ℕ) → p y ≡ false → drop_end p (xs ++ (y ∷ [])) ≡ xs ++ (y ∷ [])
 snoc-keeps p [] y e = rw e
 snoc-keeps p (x ∷ []) y e = rw (snoc-keeps p [] y e)
 snoc-keeps p (x ∷ z ∷ xs) y e = rw (snoc-keeps p (z ∷ xs) y e)
@@ -78,22 +78,22 @@ module _ (p : ℕ → Bool) (s : List ℕ) (n : ℕ) (pos : 0 < n) (h : n ≤ le
       let l : n - 1 < length s = omega arith in
       ap (λ (k : ℕ). take k s) e ∙ take-suc s (n - 1) 0 l
 
-  pub end_step : p (get_or s (n - 1) 0) ≡ true → dropEnd p (take n s) ≡ dropEnd p (take (n - 1) s)
+  pub end_step : p (get_or s (n - 1) 0) ≡ true → drop_end p (take n s) ≡ drop_end p (take (n - 1) s)
   end_step e = rw last_byte (snoc-drops p (take (n - 1) s) (get_or s (n - 1) 0) e)
 
-  pub end-stop : p (get_or s (n - 1) 0) ≡ false → dropEnd p (take n s) ≡ take n s
-  end-stop e = ap (dropEnd p) last_byte ∙ snoc-keeps p (take (n - 1) s) (get_or s (n - 1) 0) e ∙ sym last_byte
+  pub end-stop : p (get_or s (n - 1) 0) ≡ false → drop_end p (take n s) ≡ take n s
+  end-stop e = ap (drop_end p) last_byte ∙ snoc-keeps p (take (n - 1) s) (get_or s (n - 1) 0) e ∙ sym last_byte
 
-pub zero-front : (p : ℕ → Bool) (s : List ℕ) (e : ℕ) → e ≤ 0 → take e s ≡ dropEnd p (take e s)
+pub zero-front : (p : ℕ → Bool) (s : List ℕ) (e : ℕ) → e ≤ 0 → take e s ≡ drop_end p (take e s)
 zero-front p s zero h = refl
 zero-front p s (suc e) h = absurd (not-suc-le-zero h)
 
 -- what is left is no longer
-pub end-le : (p : ℕ → Bool) (xs : List ℕ) → length (dropEnd p xs) ≤ length xs
+pub end-le : (p : ℕ → Bool) (xs : List ℕ) → length (drop_end p xs) ≤ length xs
 end-le p [] = omega arith
-end-le p (x ∷ xs) = cases (p x) (dropEnd p xs) (end-le p xs)
+end-le p (x ∷ xs) = cases (p x) (drop_end p xs) (end-le p xs)
   where
-    cases : (t : Bool) (ys : List ℕ) → length ys ≤ length xs → length (keepIf t x ys) ≤ suc (length xs)
+    cases : (t : Bool) (ys : List ℕ) → length ys ≤ length xs → length (keep_if t x ys) ≤ suc (length xs)
     cases true [] h = omega arith
     cases false [] h = omega arith
     cases t (y ∷ ys) h = omega arith

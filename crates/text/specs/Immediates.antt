@@ -12,46 +12,46 @@ told (Is v) = is v
 told (Refused r) = no (number_of r)
 
 -- the value of a digit, 0 to 9 or a letter to F in either case; 99, which no base reaches, for a byte that is none
-unfoldable pub digitOf : ℕ → ℕ
-digitOf b =
+unfoldable pub digit_of : ℕ → ℕ
+digit_of b =
     cond (leb 48 b && leb b 57) (b - 48)
     (cond (leb 65 b && leb b 70) (b - 55)
     (cond (leb 97 b && leb b 102) (b - 87) 99))
 
-abbrev pub allDigits : ℕ → List ℕ → Bool
-allDigits base [] = true
-allDigits base (x ∷ xs) = cond (ltb (digitOf x) base) (allDigits base xs) false
+abbrev pub all_digits : ℕ → List ℕ → Bool
+all_digits base [] = true
+all_digits base (x ∷ xs) = cond (ltb (digit_of x) base) (all_digits base xs) false
 
 -- the value of digits that follow on the number acc
-abbrev pub valueFrom : ℕ → ℕ → List ℕ → ℕ
-valueFrom base acc [] = acc
-valueFrom base acc (x ∷ xs) = valueFrom base (acc * base + digitOf x) xs
+abbrev pub value_from : ℕ → ℕ → List ℕ → ℕ
+value_from base acc [] = acc
+value_from base acc (x ∷ xs) = value_from base (acc * base + digit_of x) xs
 
 abbrev pub at_most : ℕ → Told ℕ
 at_most n = cond (leb n 65535) (is n) (no 24)
 
-abbrev pub digitsFrom : ℕ → ℕ → List ℕ → Told ℕ
-digitsFrom base acc xs = cond (allDigits base xs) (at_most (valueFrom base acc xs)) (no 24)
+abbrev pub digits_from : ℕ → ℕ → List ℕ → Told ℕ
+digits_from base acc xs = cond (all_digits base xs) (at_most (value_from base acc xs)) (no 24)
 
 -- one digit or more
 abbrev pub digits : ℕ → List ℕ → Told ℕ
 digits base [] = no 24
-digits base (x ∷ xs) = digitsFrom base 0 (x ∷ xs)
+digits base (x ∷ xs) = digits_from base 0 (x ∷ xs)
 
 -- one `+` is allowed before the digits
-abbrev pub afterPlus : List ℕ → List ℕ
-afterPlus [] = []
-afterPlus (x ∷ xs) = cond (eqb x 43) xs (x ∷ xs)
+abbrev pub after_plus : List ℕ → List ℕ
+after_plus [] = []
+after_plus (x ∷ xs) = cond (eqb x 43) xs (x ∷ xs)
 
 -- does it start with `0x`?
-abbrev pub isHex : List ℕ → Bool
-isHex (x ∷ y ∷ xs) = cond (eqb x 48) (eqb y 120) false
-isHex (x ∷ []) = false
-isHex [] = false
+abbrev pub is_hex : List ℕ → Bool
+is_hex (x ∷ y ∷ xs) = cond (eqb x 48) (eqb y 120) false
+is_hex (x ∷ []) = false
+is_hex [] = false
 
 -- what stands after the `#`
 abbrev pub value_of : List ℕ → Told ℕ
-value_of xs = cond (isHex xs) (digits 16 (afterPlus (drop 2 xs))) (digits 10 (afterPlus xs))
+value_of xs = cond (is_hex xs) (digits 16 (after_plus (drop 2 xs))) (digits 10 (after_plus xs))
 
 unfoldable pub immediate : List ℕ → Told ℕ
 immediate [] = no 24

@@ -1,20 +1,20 @@
 -- The tokens of a line: the longest parts with no blank in them, in order.
 use Rattle.std.specs.Prelude.{ℕ, ◌+◌, List, [], ◌∷◌, Bool, true, false, not, drop}
 use Rattle.base.specs.Choice.{cond}
-use Rattle.text.specs.Parts.{isBlank, notBlank, run, dropFront}
+use Rattle.text.specs.Parts.{is_blank, not_blank, run, drop_front}
 
-abbrev pub startsWord : List ℕ → Bool
-startsWord [] = false
-startsWord (x ∷ xs) = not (isBlank x)
+abbrev pub starts_word : List ℕ → Bool
+starts_word [] = false
+starts_word (x ∷ xs) = not (is_blank x)
 
 -- a byte before the first of some parts, as a part of its own where there is none
-abbrev pub consHead : ℕ → List (List ℕ) → List (List ℕ)
-consHead x [] = (x ∷ []) ∷ []
-consHead x (t ∷ ts) = (x ∷ t) ∷ ts
+abbrev pub cons_head : ℕ → List (List ℕ) → List (List ℕ)
+cons_head x [] = (x ∷ []) ∷ []
+cons_head x (t ∷ ts) = (x ∷ t) ∷ ts
 
 abbrev pub tokens : List ℕ → List (List ℕ)
 tokens [] = []
-tokens (x ∷ xs) = cond (isBlank x) (tokens xs) (cond (startsWord xs) (consHead x (tokens xs)) ((x ∷ []) ∷ tokens xs))
+tokens (x ∷ xs) = cond (is_blank x) (tokens xs) (cond (starts_word xs) (cons_head x (tokens xs)) ((x ∷ []) ∷ tokens xs))
 
 -- the first of some tokens, no byte where there is none; and the others
 abbrev pub first : List (List ℕ) → List ℕ
@@ -26,18 +26,18 @@ others [] = []
 others (t ∷ ts) = ts
 
 -- token k of a line, from 0; no byte where there are fewer
-abbrev pub tokenAt : List ℕ → ℕ → List ℕ
-tokenAt line k = first (drop k (tokens line))
+abbrev pub token_at : List ℕ → ℕ → List ℕ
+token_at line k = first (drop k (tokens line))
 
 -- where the first token ends
-abbrev pub pastFirst : List ℕ → ℕ
-pastFirst xs = run isBlank xs + run notBlank (dropFront isBlank xs)
+abbrev pub past_first : List ℕ → ℕ
+past_first xs = run is_blank xs + run not_blank (drop_front is_blank xs)
 
 -- where the second token starts, or the end where there is none
-abbrev pub secondStart : List ℕ → ℕ
-secondStart xs = pastFirst xs + run isBlank (drop (pastFirst xs) xs)
+abbrev pub second_start : List ℕ → ℕ
+second_start xs = past_first xs + run is_blank (drop (past_first xs) xs)
 
 -- a token ends with the first byte
-abbrev pub endsWord : List ℕ → Bool
-endsWord [] = false
-endsWord (x ∷ xs) = cond (isBlank x) false (not (startsWord xs))
+abbrev pub ends_word : List ℕ → Bool
+ends_word [] = false
+ends_word (x ∷ xs) = cond (is_blank x) false (not (starts_word xs))

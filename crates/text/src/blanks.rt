@@ -1,9 +1,9 @@
 // Blanks, and where a run of them or of other bytes ends.
 ghost use Rattle.std.specs.Prelude.{◌≡◌, ◌+◌, ◌≤◌, length, drop};
-ghost use Rattle.text.specs.Parts.{isBlank, notBlank, run};
+ghost use Rattle.text.specs.Parts.{is_blank, not_blank, run};
 
 pub fn is_blank(b: u8) -> bool
-    ensures { result ≡ isBlank b }
+    ensures { result ≡ is_blank b }
 {
     if b < 9 {
         return false;
@@ -17,7 +17,7 @@ pub fn is_blank(b: u8) -> bool
 // Where the blanks that start at `from` end.
 pub fn past_blanks(s: &[u8], from: usize) -> usize
     requires { from ≤ length s.now }
-    ensures { (result ≡ from + run isBlank (drop from s.now)) × (result ≤ length s.now) }
+    ensures { (result ≡ from + run is_blank (drop from s.now)) × (result ≤ length s.now) }
 {
     let mut i = from;
     while i < s.len() {
@@ -32,7 +32,7 @@ pub fn past_blanks(s: &[u8], from: usize) -> usize
 // Where the bytes from `from` on that are no blanks end.
 pub fn past_word(s: &[u8], from: usize) -> usize
     requires { from ≤ length s.now }
-    ensures { (result ≡ from + run notBlank (drop from s.now)) × (result ≤ length s.now) }
+    ensures { (result ≡ from + run not_blank (drop from s.now)) × (result ≤ length s.now) }
 {
     let mut i = from;
     while i < s.len() {

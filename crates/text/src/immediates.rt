@@ -1,13 +1,13 @@
 // Immediates.
 ghost use Rattle.std.specs.Prelude.{◌≡◌, ◌≤◌};
-ghost use Rattle.text.specs.Immediates.{told, digitOf, digits, isHex, afterPlus, value_of, immediate};
+ghost use Rattle.text.specs.Immediates.{told, digit_of, digits, is_hex, after_plus, value_of, immediate};
 
 use crate::Immediate;
 use base::Refusal;
 
 // The value of a digit, in either case; 99 of another byte.
 fn digit(b: u8) -> u32
-    ensures { (result ≡ digitOf b) × (result ≤ 99) }
+    ensures { (result ≡ digit_of b) × (result ≤ 99) }
 {
     if b < 48 {
         return 99;
@@ -56,7 +56,7 @@ fn number(s: &[u8], base: u32) -> Immediate
 
 // Without one `+` at the front.
 fn after_plus(s: &[u8]) -> &[u8]
-    ensures { result.now ≡ afterPlus s.now }
+    ensures { result.now ≡ after_plus s.now }
 {
     if s.len() == 0 {
         return &s[0..];
@@ -66,7 +66,7 @@ fn after_plus(s: &[u8]) -> &[u8]
 
 // Does it start with `0x`?
 fn is_hex(s: &[u8]) -> bool
-    ensures { result ≡ isHex s.now }
+    ensures { result ≡ is_hex s.now }
 {
     if s.len() < 2 {
         return false;

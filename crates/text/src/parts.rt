@@ -1,7 +1,7 @@
 // Parts of a text: without some bytes at its front or end, compared in place.
 ghost use Rattle.std.specs.Prelude.{◌≡◌};
 ghost use Rattle.base.specs.Bytes.{same};
-ghost use Rattle.text.specs.Parts.{equals, isBlank, dropEnd, dropFront};
+ghost use Rattle.text.specs.Parts.{equals, is_blank, drop_end, drop_front};
 
 use crate::blanks::is_blank;
 
@@ -24,7 +24,7 @@ pub fn same(a: &[u8], b: &[u8]) -> bool
 
 // Without all bytes `b` at the end.
 pub fn drop_final(s: &[u8], b: u8) -> &[u8]
-    ensures { result.now ≡ dropEnd (equals b) s.now }
+    ensures { result.now ≡ drop_end (equals b) s.now }
 {
     let mut e = s.len();
     while 0 < e {
@@ -38,7 +38,7 @@ pub fn drop_final(s: &[u8], b: u8) -> &[u8]
 
 // Without all bytes `b` at the front.
 pub fn drop_leading(s: &[u8], b: u8) -> &[u8]
-    ensures { result.now ≡ dropFront (equals b) s.now }
+    ensures { result.now ≡ drop_front (equals b) s.now }
 {
     let mut i = 0;
     while i < s.len() {
@@ -52,7 +52,7 @@ pub fn drop_leading(s: &[u8], b: u8) -> &[u8]
 
 // Without the blanks at the end.
 pub fn trim_end(s: &[u8]) -> &[u8]
-    ensures { result.now ≡ dropEnd isBlank s.now }
+    ensures { result.now ≡ drop_end is_blank s.now }
 {
     let mut e = s.len();
     while 0 < e {

@@ -1,6 +1,6 @@
 // The tokens of a line. Each is handed back as the part of the line that it occupies.
 ghost use Rattle.std.specs.Prelude.{◌≡◌, ◌+◌, ◌≤◌, ◌<◌, length, drop};
-ghost use Rattle.text.specs.Tokens.{tokens, first, tokenAt, pastFirst, endsWord, secondStart};
+ghost use Rattle.text.specs.Tokens.{tokens, first, token_at, past_first, ends_word, second_start};
 
 use crate::blanks::{is_blank, past_blanks, past_word};
 
@@ -17,7 +17,7 @@ fn token_from(line: &[u8], at: usize) -> &[u8]
 // Where the search for the next token starts.
 fn past_token(line: &[u8], at: usize) -> usize
     requires { at ≤ length line.now }
-    ensures { (result ≡ at + pastFirst (drop at line.now)) × (result ≤ length line.now) }
+    ensures { (result ≡ at + past_first (drop at line.now)) × (result ≤ length line.now) }
 {
     let a = past_blanks(line, at);
     past_word(line, a)
@@ -25,7 +25,7 @@ fn past_token(line: &[u8], at: usize) -> usize
 
 // Token k of the line, from 0; empty where there are fewer.
 pub fn token(line: &[u8], k: usize) -> &[u8]
-    ensures { result.now ≡ tokenAt line.now k }
+    ensures { result.now ≡ token_at line.now k }
 {
     let mut at = 0;
     let mut i = 0;
@@ -38,7 +38,7 @@ pub fn token(line: &[u8], k: usize) -> &[u8]
 
 // Where the second token starts.
 pub fn second_start(line: &[u8]) -> usize
-    ensures { (result ≡ secondStart line.now) × (result ≤ length line.now) }
+    ensures { (result ≡ second_start line.now) × (result ≤ length line.now) }
 {
     let at = past_token(line, 0);
     past_blanks(line, at)
@@ -47,7 +47,7 @@ pub fn second_start(line: &[u8]) -> usize
 // Does a token end with the byte at `i`?
 fn ends_word(s: &[u8], i: usize) -> bool
     requires { i < length s.now }
-    ensures { result ≡ endsWord (drop i s.now) }
+    ensures { result ≡ ends_word (drop i s.now) }
 {
     if is_blank(s[i]) {
         return false;

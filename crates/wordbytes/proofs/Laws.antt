@@ -10,24 +10,24 @@ use borrow.Author.Tests.{ltb-true, eqb-true, eq-eqb, ne_eqb}
 use native.Mathlib.Nat.{mod-add-div}
 use native.Mathlib.Omega.{arith}
 use Rattle.base.proofs.Tests.{both}
-use Rattle.wordbytes.specs.Words.{word_bytes, bytes_of, wordsFrom, words_in, even, are_bytes}
+use Rattle.wordbytes.specs.Words.{word_bytes, bytes_of, words_from, words_in, even, are_bytes}
 
 pub length-bytes : (ws : List ℕ) → length (bytes_of ws) ≡ 2 * length ws
 unfolding bytes_of
 length-bytes [] = refl
 length-bytes (w ∷ ws) = omega (arith, length-bytes ws)
 
-pub length-words : (n : ℕ) (bytes : List ℕ) → length (wordsFrom n bytes) ≡ n
-unfolding wordsFrom
+pub length-words : (n : ℕ) (bytes : List ℕ) → length (words_from n bytes) ≡ n
+unfolding words_from
 length-words zero bytes = refl
 length-words (suc n) bytes = rw (length-words n _)
 
-pub words_back : (ws l : List ℕ) → wordsFrom (length ws) (bytes_of ws ++ l) ≡ ws
-unfolding bytes_of wordsFrom
+pub words_back : (ws l : List ℕ) → words_from (length ws) (bytes_of ws ++ l) ≡ ws
+unfolding bytes_of words_from
 words_back [] l = refl
 words_back (w ∷ ws) l = rw (mod-add-div w 256, words_back ws l)
 
-pub words-in : (bytes : List ℕ) → words_in bytes ≡ wordsFrom (length bytes / 2) bytes
+pub words-in : (bytes : List ℕ) → words_in bytes ≡ words_from (length bytes / 2) bytes
 unfolding words_in
 words-in bytes = refl
 
@@ -35,7 +35,7 @@ pub words-in-back : (ws : List ℕ) → words_in (bytes_of ws) ≡ ws
 unfolding words_in
 words-in-back ws =
     let n : length (bytes_of ws) / 2 ≡ length ws = omega (arith, length-bytes ws) in
-    rw n (ap (wordsFrom (length ws)) (sym (append-nil (bytes_of ws))) ∙ words_back ws [])
+    rw n (ap (words_from (length ws)) (sym (append-nil (bytes_of ws))) ∙ words_back ws [])
 
 -- ---- bytes, from the words that they make
 
@@ -58,8 +58,8 @@ are-rest (suc n) [] t = t
 are-rest (suc n) (x ∷ l) t = are-rest n l (both (ltb x 256) (are_bytes l) t).1
 
 -- n words of a list of bytes are its first 2n, and all of it where it has no more
-pub bytes-front : (n : ℕ) (l : List ℕ) → 2 * n ≤ length l → are_bytes l ≡ true → bytes_of (wordsFrom n l) ≡ take (2 * n) l
-unfolding bytes_of wordsFrom
+pub bytes-front : (n : ℕ) (l : List ℕ) → 2 * n ≤ length l → are_bytes l ≡ true → bytes_of (words_from n l) ≡ take (2 * n) l
+unfolding bytes_of words_from
 bytes-front zero l e t = refl
 bytes-front (suc n) [] e t = absurd (omega arith)
 bytes-front (suc n) (a ∷ []) e t = absurd (omega arith)
@@ -69,7 +69,7 @@ bytes-front (suc n) (a ∷ b ∷ rest) e t =
     let r : 2 * n ≤ length rest = omega arith in
     rw (m, low-back a b h, high-back a b h, bytes-front n rest r (are-rest 2 (a ∷ b ∷ rest) t))
 
-pub bytes_back : (n : ℕ) (bytes : List ℕ) → length bytes ≡ 2 * n → are_bytes bytes ≡ true → bytes_of (wordsFrom n bytes) ≡ bytes
+pub bytes_back : (n : ℕ) (bytes : List ℕ) → length bytes ≡ 2 * n → are_bytes bytes ≡ true → bytes_of (words_from n bytes) ≡ bytes
 bytes_back n bytes e t = bytes-front n bytes (omega arith) t ∙ take_all (2 * n) bytes (omega arith)
 
 pub bytes-in-back : (bytes : List ℕ) → length bytes % 2 ≡ 0 → are_bytes bytes ≡ true → bytes_of (words_in bytes) ≡ bytes
@@ -119,10 +119,10 @@ module _ (bytes room : List ℕ) (h : length bytes / 2 ≤ length room) where
   pub lent_fits : 2 * length (take (length bytes / 2) room) ≤ length bytes
   lent_fits = omega (arith, lent-part)
 
-  module _ (last : List ℕ) (q : last ≡ wordsFrom (length (take (length bytes / 2) room)) bytes) where
+  module _ (last : List ℕ) (q : last ≡ words_from (length (take (length bytes / 2) room)) bytes) where
     pub read_all : take (length bytes / 2) (last ++ drop (length bytes / 2) room) ≡ words_in bytes
     read_all =
-        let f : last ≡ wordsFrom (length bytes / 2) bytes = q ∙ ap (λ (k : ℕ). wordsFrom k bytes) lent-part in
+        let f : last ≡ words_from (length bytes / 2) bytes = q ∙ ap (λ (k : ℕ). words_from k bytes) lent-part in
         let m : length last ≡ length bytes / 2 = ap length f ∙ length-words (length bytes / 2) bytes in
         take_at last (drop (length bytes / 2) room) (length bytes / 2) m ∙ f ∙ sym (words-in bytes)
 

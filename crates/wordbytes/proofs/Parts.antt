@@ -5,7 +5,7 @@ use mathlib.Core.List.{List, [], ◌∷◌, ◌++◌}
 use lib.ListN.{length, get_or, take, drop, set}
 use lib.Seq.{get_or-drop, drop-drop, length-take-le, take-suc, take-suc-set, sets}
 use native.Mathlib.Omega.{arith}
-use Rattle.wordbytes.specs.Words.{word_at, word_bytes, bytes_of, wordsFrom}
+use Rattle.wordbytes.specs.Words.{word_at, word_bytes, bytes_of, words_from}
 use Rattle.wordbytes.proofs.Laws.{length-bytes}
 
 -- ---- read
@@ -15,35 +15,35 @@ pub word-drop : (i j : ℕ) (l : List ℕ) → word_at (drop i l) j ≡ word_at 
 word-drop i j l = let f : i + (j + 1) ≡ i + j + 1 = omega arith in rw (get_or-drop i l j 0, get_or-drop i l (j + 1) 0, f)
 
 -- no words, and two and more
-pub words-none : (l : List ℕ) → wordsFrom 0 l ≡ []
-unfolding wordsFrom
+pub words-none : (l : List ℕ) → words_from 0 l ≡ []
+unfolding words_from
 words-none l = refl
 
-pub words-pair : (n : ℕ) (l : List ℕ) → wordsFrom (suc (suc n)) l ≡ word_at l 0 ∷ word_at l 2 ∷ wordsFrom n (drop 4 l)
-unfolding wordsFrom
+pub words-pair : (n : ℕ) (l : List ℕ) → words_from (suc (suc n)) l ≡ word_at l 0 ∷ word_at l 2 ∷ words_from n (drop 4 l)
+unfolding words_from
 words-pair n l = rw (drop-drop 2 2 l, word-drop 2 0 l)
 
 pub words-eight : (l : List ℕ)
-    → wordsFrom 8 l
+    → words_from 8 l
     ≡ word_at l 0 ∷ word_at l 2 ∷ word_at l 4 ∷ word_at l 6 ∷ word_at l 8 ∷ word_at l 10 ∷ word_at l 12 ∷ word_at l 14 ∷ []
-unfolding wordsFrom
+unfolding words_from
 words-eight l = simp (drop-drop, get_or-drop)
 
 -- n words, and one more
-words-suc : (n : ℕ) (l : List ℕ) → wordsFrom (suc n) l ≡ wordsFrom n l ++ (word_at l (2 * n) ∷ [])
-unfolding wordsFrom
+words-suc : (n : ℕ) (l : List ℕ) → words_from (suc n) l ≡ words_from n l ++ (word_at l (2 * n) ∷ [])
+unfolding words_from
 words-suc zero l = refl
 words-suc (suc n) l =
     let i : 2 + 2 * n ≡ 2 * suc n = omega arith in
     let r : word_at (drop 2 l) (2 * n) ≡ word_at l (2 * suc n) = word-drop 2 (2 * n) l ∙ ap (word_at l) i in
-    ap (λ (t : List ℕ). word_at l 0 ∷ t) (words-suc n (drop 2 l) ∙ ap (λ (w : ℕ). wordsFrom n (drop 2 l) ++ (w ∷ [])) r)
+    ap (λ (t : List ℕ). word_at l 0 ∷ t) (words-suc n (drop 2 l) ∙ ap (λ (w : ℕ). words_from n (drop 2 l) ++ (w ∷ [])) r)
 
-pub words_snoc : (n : ℕ) (l : List ℕ) → wordsFrom (n + 1) l ≡ wordsFrom n l ++ (word_at l (2 * n) ∷ [])
+pub words_snoc : (n : ℕ) (l : List ℕ) → words_from (n + 1) l ≡ words_from n l ++ (word_at l (2 * n) ∷ [])
 words_snoc n l = let s : n + 1 ≡ suc n = omega arith in rw s (words-suc n l)
 
 -- n words are read into the front, and one more
-pub read_next : (l ws : List ℕ) (n : ℕ) → n < length ws → take n ws ≡ wordsFrom n l
-    → take (n + 1) (set ws n (word_at l (2 * n))) ≡ wordsFrom (n + 1) l
+pub read_next : (l ws : List ℕ) (n : ℕ) → n < length ws → take n ws ≡ words_from n l
+    → take (n + 1) (set ws n (word_at l (2 * n))) ≡ words_from (n + 1) l
 read_next l ws n h e =
     let s : n + 1 ≡ suc n = omega arith in
     rw (words_snoc n l, s, take-suc-set ws n (word_at l (2 * n)) h, e)

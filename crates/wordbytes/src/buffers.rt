@@ -1,14 +1,14 @@
 // A whole buffer of words.
 ghost use Rattle.std.specs.Prelude.{◌≡◌, length, ◌*◌, ◌≤◌};
 ghost use Rattle.std.proofs.lemmas.List.Edits.{sets};
-ghost use Rattle.wordbytes.specs.Words.{bytes_of, wordsFrom};
+ghost use Rattle.wordbytes.specs.Words.{bytes_of, words_from};
 
 use crate::places::{put_word, word_at};
 
 // Fills words from the first bytes.
 pub fn read_words(bytes: &[u8], words: &mut [u16])
     requires { 2 * length words.old ≤ length bytes.now }
-    ensures { words.new ≡ wordsFrom (length words.old) bytes.now }
+    ensures { words.new ≡ words_from (length words.old) bytes.now }
 {
     let mut n: usize = 0;
     while n < words.len() {

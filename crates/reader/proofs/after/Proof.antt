@@ -26,9 +26,9 @@ use denote.Struct.Rest.{own_put}
 use denote.Triple.Statement.{Triple}
 use denote.Triple.Spec.{triple_of}
 use denote.Triple.Table.{entered, cited}
-use Rattle.reader.specs.Reader.{afterLine}
+use Rattle.reader.specs.Reader.{after_line}
 use Rattle.reader.specs.declared.LineReader.{LineReader}
-use Rattle.reader.proofs.Apart.{B, Own, asking, taking, Token, entry, twice, asks, Ended-at, ends, Walk, meets}
+use Rattle.reader.proofs.Apart.{B, Own, asking, taking, Token, entry, twice, asks, EndedAt, ends, Walk, meets}
 use Rattle.reader.proofs.Told.{Promise, Told}
 use Rattle.reader.specs.contracts.LineReader as T
 use Rattle.reader.proofs.LineReader.TheLaws as T'
@@ -45,10 +45,10 @@ count = plain (λ _. usize)
 
 -- what `after_line` promises of a slice and a number, and what is promised here of a reader
 abbrev found : Promise (asking count)
-found κs a r = r ≡ afterLine a.0.now a.1.0
+found κs a r = r ≡ after_line a.0.now a.1.0
 
 abbrev moves : Promise (taking (plain B))
-moves κs a r = (r.text ≡ a.0.text) × (r.at ≡ afterLine a.0.text.now a.0.at)
+moves κs a r = (r.text ≡ a.0.text) × (r.at ≡ after_line a.0.text.now a.0.at)
 
 -- the reader that is handed back
 abbrev moved : LineReader → ℕ → LineReader
@@ -57,8 +57,8 @@ moved d r = record { text = d.text; at = r }
 module _ {M : Type 1} {𝓤 : Ura M} (𝓛 : Logic 𝓤) where
   open 𝓛 use {H}
 
-  exits : (κ : Lft) (q : Share) (d : LineReader) (r : ℕ) (u : Val) → r ≡ afterLine d.text.now d.at → r < 2 ^ 64
-      → ent 𝓤 (⋆ 𝓛 (‵ (usize.own_val r (u ∷ [])) ∷ Token 𝓛 κ q ∷ ‵ (Own κ d) ∷ [])) (Ended-at 𝓛 κ q d (plain B) moves (T'.lowered (moved d r)))
+  exits : (κ : Lft) (q : Share) (d : LineReader) (r : ℕ) (u : Val) → r ≡ after_line d.text.now d.at → r < 2 ^ 64
+      → ent 𝓤 (⋆ 𝓛 (‵ (usize.own_val r (u ∷ [])) ∷ Token 𝓛 κ q ∷ ‵ (Own κ d) ∷ [])) (EndedAt 𝓛 κ q d (plain B) moves (T'.lowered (moved d r)))
   exits κ q d r u e fits =
       qed 𝓛 (‵ (usize.own_val r (u ∷ [])) ∷ Token 𝓛 κ q ∷ ‵ (Own κ d) ∷ []) ∵
       drop ! $ move ! (1 ∷ []) $ use1 𝓛 (‵ (Own κ d) ⊛ ‵ (Own κ d)) (twice 𝓛 κ d) $ split ! $

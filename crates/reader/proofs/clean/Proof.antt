@@ -6,7 +6,7 @@ use contract.Running.{tables, tables_of}
 use denote.Plain.{bool_Lawful}
 use denote.Triple.Spec.{triple_of}
 use denote.Triple.Table.{entered, cited}
-use Rattle.reader.specs.Reader.{cleanAt}
+use Rattle.reader.specs.Reader.{clean_at}
 use Rattle.reader.proofs.Apart.{asking, passes}
 use Rattle.reader.proofs.Told.{Promise, Told}
 use Rattle.reader.proofs.lines.clean_at.Symbol as work-def
@@ -19,7 +19,7 @@ use Rattle.reader.proofs.clean.Code as code
 
 -- what `clean_at` promises of a slice and a number
 abbrev found : Promise (asking (clean.signature).result)
-found κs a r = r ≡ cleanAt a.0.now a.1.0
+found κs a r = r ≡ clean_at a.0.now a.1.0
 
 pub clean-spec : {M : Type 1} → stated.statement M
 unfolding code.routine tables_of

@@ -1,5 +1,5 @@
 -- Each operator calls its function. Assumes nothing.
-use Rattle.arithmetic.specs.Operators.{arithResult}
+use Rattle.arithmetic.specs.Operators.{arith_result}
 use borrow.Author.Rules.{rules}
 use Rattle.arithmetic.proofs.operators.arith.Statement.{statement}
 use Rattle.arithmetic.proofs.operators.arith.Tie as tie
@@ -29,19 +29,19 @@ quotient-requires : tie.Need-quotient-requires
 quotient-requires c κs = search rules
 
 returns : tie.Need-returns
-unfolding arithResult
+unfolding arith_result
 returns c = rw c.before.enum_told.given.1 c.sum.ensures
 
 returns-2 : tie.Need-returns-2
-unfolding arithResult
+unfolding arith_result
 returns-2 c = rw c.before.enum-told2.given.1 c.difference.ensures
 
 returns-3 : tie.Need-returns-3
-unfolding arithResult
+unfolding arith_result
 returns-3 c = rw c.before.enum-told3.given.1 c.product.ensures
 
 returns-4 : tie.Need-returns-4
-unfolding arithResult
+unfolding arith_result
 returns-4 c = rw c.before.enum-told4.given.1 c.quotient.ensures
 
 pub arith-spec : {M : Type 1} → statement M

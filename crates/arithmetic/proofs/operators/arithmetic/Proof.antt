@@ -1,5 +1,5 @@
 -- Each operator calls its function. Assumes nothing.
-use Rattle.arithmetic.specs.Operators.{arithmeticResult}
+use Rattle.arithmetic.specs.Operators.{arithmetic_result}
 use borrow.Author.Rules.{rules}
 use Rattle.arithmetic.proofs.operators.arithmetic.Statement.{statement}
 use Rattle.arithmetic.proofs.operators.arithmetic.Tie as tie
@@ -47,31 +47,31 @@ root-requires : tie.Need-root-requires
 root-requires c κs = search rules
 
 returns : tie.Need-returns
-unfolding arithmeticResult
+unfolding arithmetic_result
 returns c = rw c.before.enum_told.given.1 c.sum.ensures
 
 returns-2 : tie.Need-returns-2
-unfolding arithmeticResult
+unfolding arithmetic_result
 returns-2 c = rw c.before.enum-told2.given.1 c.difference.ensures
 
 returns-3 : tie.Need-returns-3
-unfolding arithmeticResult
+unfolding arithmetic_result
 returns-3 c = rw c.before.enum-told3.given.1 c.product.ensures
 
 returns-4 : tie.Need-returns-4
-unfolding arithmeticResult
+unfolding arithmetic_result
 returns-4 c = rw c.before.enum-told4.given.1 c.quotient.ensures
 
 returns-5 : tie.Need-returns-5
-unfolding arithmeticResult
+unfolding arithmetic_result
 returns-5 c = rw c.before.enum-told5.given.1 c.remainder.ensures
 
 returns-6 : tie.Need-returns-6
-unfolding arithmeticResult
+unfolding arithmetic_result
 returns-6 c = rw c.before.enum-told6.given.1 c.power.ensures
 
 returns-7 : tie.Need-returns-7
-unfolding arithmeticResult
+unfolding arithmetic_result
 returns-7 c = rw (c.before.enum-told7.given.1, c.root.ensures)
 
 pub arithmetic-spec : {M : Type 1} → statement M

@@ -3,7 +3,7 @@ use Prim.Native.Nat.{◌+◌}
 use mathlib.Core.Path.{◌∙◌, ◌≡◌, ap, sym}
 use native.Mathlib.Omega.{arith}
 use Rattle.asm.specs.Reading.{end_of}
-use Rattle.asm.specs.Views.{labelFor, slotFor}
+use Rattle.asm.specs.Views.{label_for, slot_for}
 use Rattle.asm.specs.declared.Line.{Line}
 use borrow.Author.Rules.{rules}
 use Rattle.asm.proofs.labelling.entry_for.Statement.{statement}
@@ -53,8 +53,8 @@ returns : tie.Need-returns
 returns c =
     let a = c.before.before.before.before.before.args in
     let line = c.before.before.before.line.given in (
-      c.before.slot.ensures ∙ sym (ap (λ (x : Line). slotFor x a.f a.n.labels a.most) line.1),
-      c.label-here.ensures ∙ sym (ap (λ (x : Line). labelFor x a.at a.n.words.0) line.1),
+      c.before.slot.ensures ∙ sym (ap (λ (x : Line). slot_for x a.f a.n.labels a.most) line.1),
+      c.label-here.ensures ∙ sym (ap (λ (x : Line). label_for x a.at a.n.words.0) line.1),
     )
 
 returns-2 : tie.Need-returns-2

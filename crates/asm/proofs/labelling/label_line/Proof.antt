@@ -7,7 +7,7 @@ use native.Mathlib.Omega.{arith}
 use Rattle.asm.proofs.LabelLaws.{define-count, define-used}
 use Rattle.asm.proofs.TurnLaws.{left-labels, left-waiting, left-words, turn-label, turn-label-full}
 use Rattle.asm.specs.Labels.{define, part, patch}
-use Rattle.asm.specs.Views.{count_of, defined, labelsIn, leftTurn, patched, slot_of, turned, waitingIn, words_in}
+use Rattle.asm.specs.Views.{count_of, defined, labels_in, left_turn, patched, slot_of, turned, waiting_in, words_in}
 use Rattle.asm.specs.Work.{task}
 use Rattle.base.specs.Numbers.{number_of}
 use Rattle.base.specs.Told.{is, no}
@@ -94,7 +94,7 @@ returns c =
     let patch-then : patched left words' waiting' ≡ patch a.rules.strict text (part text a.place a.size) (doubled n.words.0) (take n.waiting waiting) words =
     pat.ensures.0 ∙ ap (λ (x : ℕ). patch a.rules.strict text (take x (drop a.place text)) address.result.0 (take n.waiting waiting) words) size ∙
     ap (λ (x : ℕ). patch a.rules.strict text (part text a.place a.size) x (take n.waiting waiting) words) address.ensures in
-    let after : c.after.result ≡ leftTurn left n.words k = c.after.ensures in (
+    let after : c.after.result ≡ left_turn left n.words k = c.after.ensures in (
       λ ls room e.
           let t = task a.rules.strict text (length words) a.most in
           let labels' = set ls (slot_of a.f n.labels) l in
@@ -105,8 +105,8 @@ returns c =
       (
         omega (arith, ap words_in after, left-words left n.words k, within.0),
         omega (arith, ap words_in after, left-words left n.words k, within.1),
-        omega (arith, ap labelsIn after, left-labels left n.words k, ap count_of d.1, define-count n.labels a.most within.2 a.f used.result used.ensures),
-        omega (arith, ap waitingIn after, left-waiting left n.words k, pat.ensures.1, within.3),
+        omega (arith, ap labels_in after, left-labels left n.words k, ap count_of d.1, define-count n.labels a.most within.2 a.f used.result used.ensures),
+        omega (arith, ap waiting_in after, left-waiting left n.words k, pat.ensures.1, within.3),
       ),
     )
 

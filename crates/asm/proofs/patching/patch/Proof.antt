@@ -6,7 +6,7 @@ use mathlib.Core.Path.{◌∙◌, ◌≡◌, ap, refl, sym}
 use native.Mathlib.Omega.{arith}
 use Rattle.asm.proofs.PatchLaws.{left-to-patch, opens-same, patch-begin, patch-end, patch-go, patch-kept, patch-stop}
 use Rattle.asm.specs.Labels.{patch}
-use Rattle.asm.specs.Views.{keptOf, patchOne, stepped}
+use Rattle.asm.specs.Views.{kept_of, patch_one, stepped}
 use Rattle.asm.specs.Work.{references}
 use Rattle.base.specs.Numbers.{number_of}
 use Rattle.base.specs.Told.{is, no}
@@ -69,7 +69,7 @@ returns c =
     let words = one.new.1.1.1.1.1.1.0 in
     let waiting' = opens_of one.new.1.1.1.1.1.1.1.0 one.new.1.1.1.1.1.1.1.1.0 one.new.1.1.1.1.1.1.1.1.1.0 one.new.1.1.1.1.1.1.1.1.1.1.0 in
     let m : a.count ≤ length waiting = omega (arith, e, s.requires.1) in
-    let q : no (number_of c.before.one.given.0.0) ≡ patchOne a.rules.strict a.text.now a.name.now a.address.0 h.loop.i h.loop.auto h.loop.output waiting =
+    let q : no (number_of c.before.one.given.0.0) ≡ patch_one a.rules.strict a.text.now a.name.now a.address.0 h.loop.i h.loop.auto h.loop.output waiting =
     sym (ap (λ (x : Left). stepped x words waiting') c.before.one.given.1) ∙ one.ensures in (
       patch-stop a.rules.strict a.text.now a.name.now a.address.0 a.count h.loop.i h.loop.auto waiting h.loop.output c.before.before.before.before.before.before.before.before.before.before.before.before.before.before.before.before.before.before.before.loop-test.true m h.loop.invariant.0 (number_of c.before.one.given.0.0) q ∙ h.loop.invariant.7,
       search rules,
@@ -97,9 +97,9 @@ loop-again c =
     let words = one.new.1.1.1.1.1.1.0 in
     let waiting' = opens_of one.new.1.1.1.1.1.1.1.0 one.new.1.1.1.1.1.1.1.1.0 one.new.1.1.1.1.1.1.1.1.1.0 one.new.1.1.1.1.1.1.1.1.1.1.0 in
     let m : a.count ≤ length waiting = omega (arith, e, s.requires.1) in
-    let q : is (keptOf c.before.one2.given.0.0 words waiting') ≡ patchOne a.rules.strict a.text.now a.name.now a.address.0 h.loop.i h.loop.auto h.loop.output waiting =
+    let q : is (kept_of c.before.one2.given.0.0 words waiting') ≡ patch_one a.rules.strict a.text.now a.name.now a.address.0 h.loop.i h.loop.auto h.loop.output waiting =
     sym (ap (λ (x : Left). stepped x words waiting') c.before.one2.given.1) ∙ one.ensures in
-    let kept = keptOf c.before.one2.given.0.0 words waiting' in (
+    let kept = kept_of c.before.one2.given.0.0 words waiting' in (
       patch-kept a.rules.strict a.text.now a.name.now a.address.0 a.count h.loop.i h.loop.auto waiting h.loop.output c.before.before.before.before.before.before.before.before.before.before.before.before.before.before.before.before.before.before.before.loop-test.true m h.loop.invariant.0 kept q,
       omega (arith, c.before.before.before.before.before.before.before.before.before.before.before.before.before.before.before.before.before.before.before.loop-test.true),
       one.auto.1.1.1.1.1.1.0 ∙ h.loop.invariant.2,

@@ -7,7 +7,7 @@ use mathlib.Core.List.{List}
 use mathlib.Core.Path.{◌∙◌, ◌≡◌, ap, sym}
 use native.Mathlib.Omega.{arith}
 use Rattle.asm.proofs.PatchLaws.{opens-stored, patch-hit, patch-miss, patch-this}
-use Rattle.asm.specs.Views.{keptOf, patchOne, patchThis, put}
+use Rattle.asm.specs.Views.{kept_of, patch_one, patch_this, put}
 use Rattle.base.specs.Told.{is}
 use Rattle.instruction.specs.Fits.{fits}
 use Rattle.labels.specs.Labels.{names}
@@ -48,8 +48,8 @@ returns c =
     let o = c.before.before.before.before.before.before.open_at.result in
     let eo : o ≡ get_or waiting a.i no_open = c.before.before.before.before.before.before.open_at.ensures in
     let name : names a.text.now o.place o.length a.name.now ≡ true = sym c.before.before.before.before.before.names.ensures ∙ c.before.before.before.before.if1.true in
-    let whole : patchThis a.rules.strict a.text.now a.name.now a.address.0 o a.kept a.output.now waiting
-    ≡ patchOne a.rules.strict a.text.now a.name.now a.address.0 a.i a.kept a.output.now waiting =
+    let whole : patch_this a.rules.strict a.text.now a.name.now a.address.0 o a.kept a.output.now waiting
+    ≡ patch_one a.rules.strict a.text.now a.name.now a.address.0 a.i a.kept a.output.now waiting =
     patch-this a.rules.strict a.text.now a.name.now a.address.0 a.i a.kept a.output.now waiting o eo in
     let settle = c.before.before.settle in
     patch-hit a.rules.strict a.text.now a.name.now a.address.0 a.kept a.output.now settle.new.1.1.1.1.0 waiting o settle.result name settle.ensures.0 settle.ensures.1 ∙ whole
@@ -80,12 +80,12 @@ returns-2 c =
     let o = c.before.before.before.before.before.before.before.before.before.before.before.before.before.before.before.open_at.result in
     let eo : o ≡ get_or waiting a.i no_open = c.before.before.before.before.before.before.before.before.before.before.before.before.before.before.before.open_at.ensures in
     let name : names a.text.now o.place o.length a.name.now ≡ false = sym c.before.before.before.before.before.before.before.before.before.before.before.before.before.before.names.ensures ∙ c.before.before.before.before.before.before.before.before.before.before.before.before.before.if1.false in
-    let whole : patchThis a.rules.strict a.text.now a.name.now a.address.0 o a.kept a.output.now waiting
-    ≡ patchOne a.rules.strict a.text.now a.name.now a.address.0 a.i a.kept a.output.now waiting =
+    let whole : patch_this a.rules.strict a.text.now a.name.now a.address.0 o a.kept a.output.now waiting
+    ≡ patch_one a.rules.strict a.text.now a.name.now a.address.0 a.i a.kept a.output.now waiting =
     patch-this a.rules.strict a.text.now a.name.now a.address.0 a.i a.kept a.output.now waiting o eo in
     let put = c.before.before.before.before.before.before.before.before.put-open in
     let e = opens-stored a.places.now a.lengths.now a.words.now a.references.now put.new.0 put.new.1.0 put.new.1.1.0 put.new.1.1.1.0 a.kept o put.ensures.0 put.ensures.1 put.ensures.2 put.ensures.3 in
-    ap (λ (w : List Open). is (keptOf (a.kept + 1) a.output.now w)) e ∙
+    ap (λ (w : List Open). is (kept_of (a.kept + 1) a.output.now w)) e ∙
     patch-miss a.rules.strict a.text.now a.name.now a.address.0 a.kept a.output.now waiting o name ∙ whole
 
 pub patch-one-spec : {M : Type 1} → statement M

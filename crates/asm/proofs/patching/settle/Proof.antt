@@ -1,7 +1,7 @@
 -- The word is put where there is one. Assumes nothing.
 use borrow.Author.Rules.{rules}
 use mathlib.Core.Path.{◌∙◌, ◌≡◌, ap, sym}
-use Rattle.asm.specs.Words.{toldWord, wordOf}
+use Rattle.asm.specs.Words.{told_word, word_of}
 use Rattle.base.specs.Numbers.{number_of}
 use Rattle.base.specs.Told.{is, no}
 use Rattle.parser.specs.References.{resolved}
@@ -33,16 +33,16 @@ returns : tie.Need-returns
 returns c =
     let s = c.before.before.before.before.before.before.before.before.before.before.before in
     let o = s.args.o in
-    let e : is c.before.before.before.before.before.w.given.0.0 ≡ wordOf s.args.rules.strict (resolved o.reference s.args.address.0) =
-    sym (ap toldWord c.before.before.before.before.before.w.given.1) ∙ c.before.before.before.before.before.before.before.word_of.ensures ∙ ap (wordOf s.args.rules.strict) c.before.before.before.before.before.before.before.before.resolved.ensures in
+    let e : is c.before.before.before.before.before.w.given.0.0 ≡ word_of s.args.rules.strict (resolved o.reference s.args.address.0) =
+    sym (ap told_word c.before.before.before.before.before.w.given.1) ∙ c.before.before.before.before.before.before.before.word_of.ensures ∙ ap (word_of s.args.rules.strict) c.before.before.before.before.before.before.before.before.resolved.ensures in
     (rw (← e), c.before.before.put_word.ensures ∙ rw (← e))
 
 returns-2 : tie.Need-returns-2
 returns-2 c =
     let s = c.before.before.before.before.before.before.before in
     let o = s.args.o in
-    let e : no (number_of c.before.w2.given.0.0) ≡ wordOf s.args.rules.strict (resolved o.reference s.args.address.0) =
-    sym (ap toldWord c.before.w2.given.1) ∙ c.before.before.before.word_of.ensures ∙ ap (wordOf s.args.rules.strict) c.before.before.before.before.resolved.ensures in
+    let e : no (number_of c.before.w2.given.0.0) ≡ word_of s.args.rules.strict (resolved o.reference s.args.address.0) =
+    sym (ap told_word c.before.w2.given.1) ∙ c.before.before.before.word_of.ensures ∙ ap (word_of s.args.rules.strict) c.before.before.before.before.resolved.ensures in
     (rw (← e), rw (← e))
 
 pub settle-spec : {M : Type 1} → statement M

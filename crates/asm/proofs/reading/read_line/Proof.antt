@@ -5,9 +5,9 @@ use lib.ListN.{drop, length, length-drop}
 use mathlib.Core.Path.{◌∙◌, ◌≡◌, ap, sym}
 use native.Mathlib.Omega.{arith}
 use Rattle.asm.proofs.ReadLaws.{read-empty}
-use Rattle.asm.specs.Reading.{read, readTrimmed}
+use Rattle.asm.specs.Reading.{read, read_trimmed}
 use Rattle.text.proofs.PartLaws.{end-le, rest}
-use Rattle.text.specs.Parts.{dropEnd, dropFront, isBlank, run}
+use Rattle.text.specs.Parts.{drop_end, drop_front, is_blank, run}
 use Rattle.asm.proofs.reading.read_line.Statement.{statement}
 use Rattle.asm.proofs.reading.read_line.Tie as tie
 
@@ -32,20 +32,20 @@ returns c =
     let s = c.before.before.before.before.before in
     let line = s.args.line.now in
     let a = c.before.before.before.past-blanks.result in
-    let start : a ≡ run isBlank line = omega (arith, c.before.before.before.past-blanks.ensures.0) in
-    let t : c.before.trim_end.result.now ≡ dropEnd isBlank (dropFront isBlank line) =
-    c.before.trim_end.ensures ∙ ap (dropEnd isBlank) (rest a line ∙ ap (λ (n : ℕ). drop n line) start) in
-    (read-empty (run isBlank line) (dropEnd isBlank (dropFront isBlank line)) (sym (ap length t) ∙ c.if1.true), search rules)
+    let start : a ≡ run is_blank line = omega (arith, c.before.before.before.past-blanks.ensures.0) in
+    let t : c.before.trim_end.result.now ≡ drop_end is_blank (drop_front is_blank line) =
+    c.before.trim_end.ensures ∙ ap (drop_end is_blank) (rest a line ∙ ap (λ (n : ℕ). drop n line) start) in
+    (read-empty (run is_blank line) (drop_end is_blank (drop_front is_blank line)) (sym (ap length t) ∙ c.if1.true), search rules)
 
 read-some-requires : tie.Need-read-some-requires
 read-some-requires c κs =
     let s = c.before.before.before.before.before in
     let line = s.args.line.now in
     let a = c.before.before.before.past-blanks.result in
-    let start : a ≡ run isBlank line = omega (arith, c.before.before.before.past-blanks.ensures.0) in
-    let t : c.before.trim_end.result.now ≡ dropEnd isBlank (dropFront isBlank line) =
-    c.before.trim_end.ensures ∙ ap (dropEnd isBlank) (rest a line ∙ ap (λ (n : ℕ). drop n line) start) in
-    let l : length c.before.trim_end.result.now ≤ length line - a = omega (arith, ap length t, end-le isBlank (dropFront isBlank line), length-drop (run isBlank line) line, start) in
+    let start : a ≡ run is_blank line = omega (arith, c.before.before.before.past-blanks.ensures.0) in
+    let t : c.before.trim_end.result.now ≡ drop_end is_blank (drop_front is_blank line) =
+    c.before.trim_end.ensures ∙ ap (drop_end is_blank) (rest a line ∙ ap (λ (n : ℕ). drop n line) start) in
+    let l : length c.before.trim_end.result.now ≤ length line - a = omega (arith, ap length t, end-le is_blank (drop_front is_blank line), length-drop (run is_blank line) line, start) in
     (omega (arith, c.if1.false), omega (arith, l, c.before.before.before.past-blanks.ensures.1))
 
 returns-2 : tie.Need-returns-2
@@ -54,12 +54,12 @@ returns-2 c =
     let s = c.before.before.before.before.before.before in
     let line = s.args.line.now in
     let a = c.before.before.before.before.past-blanks.result in
-    let start : a ≡ run isBlank line = omega (arith, c.before.before.before.before.past-blanks.ensures.0) in
-    let t : c.before.before.trim_end.result.now ≡ dropEnd isBlank (dropFront isBlank line) =
-    c.before.before.trim_end.ensures ∙ ap (dropEnd isBlank) (rest a line ∙ ap (λ (n : ℕ). drop n line) start) in
+    let start : a ≡ run is_blank line = omega (arith, c.before.before.before.before.past-blanks.ensures.0) in
+    let t : c.before.before.trim_end.result.now ≡ drop_end is_blank (drop_front is_blank line) =
+    c.before.before.trim_end.ensures ∙ ap (drop_end is_blank) (rest a line ∙ ap (λ (n : ℕ). drop n line) start) in
     let r = c.read_Some in
-    let l : length c.before.before.trim_end.result.now ≤ length line - a = omega (arith, ap length t, end-le isBlank (dropFront isBlank line), length-drop (run isBlank line) line, start) in (
-      r.ensures.0 ∙ ap (λ (n : ℕ). readTrimmed n c.before.before.trim_end.result.now) start ∙ ap (readTrimmed (run isBlank line)) t,
+    let l : length c.before.before.trim_end.result.now ≤ length line - a = omega (arith, ap length t, end-le is_blank (drop_front is_blank line), length-drop (run is_blank line) line, start) in (
+      r.ensures.0 ∙ ap (λ (n : ℕ). read_trimmed n c.before.before.trim_end.result.now) start ∙ ap (read_trimmed (run is_blank line)) t,
       omega (arith, r.ensures.1, l, c.before.before.before.before.past-blanks.ensures.1),
     )
 

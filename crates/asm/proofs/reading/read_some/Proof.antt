@@ -6,7 +6,7 @@ use mathlib.Core.List.{List}
 use mathlib.Core.Path.{◌∙◌, ◌≡◌, ap, sym}
 use native.Mathlib.Omega.{arith}
 use Rattle.asm.proofs.ReadLaws.{read-comment, read-label, read-said}
-use Rattle.asm.specs.Reading.{nameIn, refers, said}
+use Rattle.asm.specs.Reading.{name_in, refers, said}
 use Rattle.asm.specs.Work.{says}
 use Rattle.base.specs.Numbers.{number_of}
 use Rattle.base.specs.Told.{is, no}
@@ -15,7 +15,7 @@ use Rattle.labels.specs.Labels.{label}
 use Rattle.parser.specs.Answers.{told}
 use Rattle.parser.specs.Parse.{parse}
 use Rattle.text.proofs.TokenLaws.{second_fits}
-use Rattle.text.specs.Tokens.{secondStart, tokenAt, tokens}
+use Rattle.text.specs.Tokens.{second_start, token_at, tokens}
 use Rattle.parser.specs.declared.Parsed.{Parsed}
 use Rattle.asm.specs.Reading as Reading
 use Rattle.parser.specs.Answers as Parse
@@ -40,8 +40,8 @@ returns-2 c =
     let s = c.before.before.before.before.before in
     let t = s.args.t.now in
     let at = s.args.at in
-    let name : c.before.drop-final.result.now ≡ nameIn t = c.before.drop-final.ensures in
-    let short : length (nameIn t) < length t = omega (arith, ap length name, c.if2.true) in
+    let name : c.before.drop-final.result.now ≡ name_in t = c.before.drop-final.ensures in
+    let short : length (name_in t) < length t = omega (arith, ap length name, c.if2.true) in
     (ap (λ (xs : List ℕ). is (Reading.label at (length xs))) name ∙ read-label at t s.requires.0 c.before.before.if1.false short, omega (arith, c.if2.true))
 
 parse-requires : tie.Need-parse-requires
@@ -70,9 +70,9 @@ returns-3 c =
     let s = c.before.before.before.before.before.before.before.before.before in
     let t = s.args.t.now in
     let at = s.args.at in
-    let name : c.before.before.before.before.before.drop-final.result.now ≡ nameIn t = c.before.before.before.before.before.drop-final.ensures in
-    let whole : length t ≤ length (nameIn t) = omega (arith, ap length name, c.before.before.before.before.if2.false) in
-    let e : is (Parse.says c.before.p.given.0.0) ≡ parse (tokens t) = sym (ap (λ (x : Parsed). told x (tokenAt t 1)) c.before.p.given.1) ∙ c.before.before.before.parse.ensures in
+    let name : c.before.before.before.before.before.drop-final.result.now ≡ name_in t = c.before.before.before.before.before.drop-final.ensures in
+    let whole : length t ≤ length (name_in t) = omega (arith, ap length name, c.before.before.before.before.if2.false) in
+    let e : is (Parse.says c.before.p.given.0.0) ≡ parse (tokens t) = sym (ap (λ (x : Parsed). told x (token_at t 1)) c.before.p.given.1) ∙ c.before.before.before.parse.ensures in
     (ap (said at t) e ∙ read-said at t s.requires.0 c.before.before.before.before.before.before.if1.false whole, search rules)
 
 returns-4 : tie.Need-returns-4
@@ -80,14 +80,14 @@ returns-4 c =
     let s = c.before.before.before.before.before.before.before.before.before.before.before in
     let t = s.args.t.now in
     let at = s.args.at in
-    let name : c.before.before.before.before.before.before.before.drop-final.result.now ≡ nameIn t = c.before.before.before.before.before.before.before.drop-final.ensures in
-    let whole : length t ≤ length (nameIn t) = omega (arith, ap length name, c.before.before.before.before.before.before.if2.false) in
-    let e : is (Parse.refers c.before.before.before.p2.given.0.0 (tokenAt t 1)) ≡ parse (tokens t) = sym (ap (λ (x : Parsed). told x (tokenAt t 1)) c.before.before.before.p2.given.1) ∙ c.before.before.before.before.before.parse.ensures in
-    let start : c.before.second-start.result ≡ secondStart t = c.before.second-start.ensures.0 in
-    let size : length c.token.result.now ≡ length (tokenAt t 1) = ap length c.token.ensures in
-    let fits : secondStart t + length (tokenAt t 1) ≤ length t = second_fits t in (
+    let name : c.before.before.before.before.before.before.before.drop-final.result.now ≡ name_in t = c.before.before.before.before.before.before.before.drop-final.ensures in
+    let whole : length t ≤ length (name_in t) = omega (arith, ap length name, c.before.before.before.before.before.before.if2.false) in
+    let e : is (Parse.refers c.before.before.before.p2.given.0.0 (token_at t 1)) ≡ parse (tokens t) = sym (ap (λ (x : Parsed). told x (token_at t 1)) c.before.before.before.p2.given.1) ∙ c.before.before.before.before.before.parse.ensures in
+    let start : c.before.second-start.result ≡ second_start t = c.before.second-start.ensures.0 in
+    let size : length c.token.result.now ≡ length (token_at t 1) = ap length c.token.ensures in
+    let fits : second_start t + length (token_at t 1) ≤ length t = second_fits t in (
       ap (λ (n : ℕ). is (Reading.refers c.before.before.before.p2.given.0.0 (at + n) (length c.token.result.now))) start ∙
-          ap (λ (n : ℕ). is (Reading.refers c.before.before.before.p2.given.0.0 (at + secondStart t) n)) size ∙
+          ap (λ (n : ℕ). is (Reading.refers c.before.before.before.p2.given.0.0 (at + second_start t) n)) size ∙
           ap (said at t) e ∙ read-said at t s.requires.0 c.before.before.before.before.before.before.before.before.if1.false whole,
       omega (arith, start, size, fits),
     )
@@ -97,9 +97,9 @@ returns-5 c =
     let s = c.before.before.before.before.before.before.before.before.before in
     let t = s.args.t.now in
     let at = s.args.at in
-    let name : c.before.before.before.before.before.drop-final.result.now ≡ nameIn t = c.before.before.before.before.before.drop-final.ensures in
-    let whole : length t ≤ length (nameIn t) = omega (arith, ap length name, c.before.before.before.before.if2.false) in
-    let e : no (number_of c.before.p3.given.0.0) ≡ parse (tokens t) = sym (ap (λ (x : Parsed). told x (tokenAt t 1)) c.before.p3.given.1) ∙ c.before.before.before.parse.ensures in
+    let name : c.before.before.before.before.before.drop-final.result.now ≡ name_in t = c.before.before.before.before.before.drop-final.ensures in
+    let whole : length t ≤ length (name_in t) = omega (arith, ap length name, c.before.before.before.before.if2.false) in
+    let e : no (number_of c.before.p3.given.0.0) ≡ parse (tokens t) = sym (ap (λ (x : Parsed). told x (token_at t 1)) c.before.p3.given.1) ∙ c.before.before.before.parse.ensures in
     (ap (said at t) e ∙ read-said at t s.requires.0 c.before.before.before.before.before.before.if1.false whole, search rules)
 
 pub read-some-spec : {M : Type 1} → statement M

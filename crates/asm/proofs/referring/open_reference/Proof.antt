@@ -5,12 +5,12 @@ use lib.ListN.{length, take}
 use mathlib.Core.Path.{◌∙◌, ◌≡◌, ap, sym}
 use native.Mathlib.Omega.{arith}
 use Rattle.asm.proofs.TurnLaws.{left-labels, left-waiting, left-words, turn-opens, turn-opens-full}
-use Rattle.asm.specs.Views.{added, labelsIn, left, left_of, leftTurn, next_of, turned, waitingIn, words_in}
-use Rattle.asm.specs.Words.{addWord}
+use Rattle.asm.specs.Views.{added, labels_in, left, left_of, left_turn, next_of, turned, waiting_in, words_in}
+use Rattle.asm.specs.Words.{add_word}
 use Rattle.base.specs.Numbers.{number_of}
 use Rattle.base.specs.Told.{is, no}
 use Rattle.labels.proofs.Laws.{opens-full}
-use Rattle.labels.specs.Opens.{openTo, opens_of}
+use Rattle.labels.specs.Opens.{open_to, opens_of}
 use Rattle.asm.specs.declared.words.Added.{Added}
 use Rattle.asm.specs.declared.Turn.{Turn}
 use Rattle.asm.proofs.referring.open_reference.Statement.{statement}
@@ -56,7 +56,7 @@ returns c =
     let n = a.n in
     let words = a.words.now in
     let waiting = opens_of a.o-places.now a.o-lengths.now a.o-words.now a.o-references.now in
-    let o = openTo a.place a.size n.words.0 a.reference in
+    let o = open_to a.place a.size n.words.0 a.reference in
     let add = c.before.before.before.before.before.before.before.before.before.before.before.before.before.before.before.before.before.before.before.add-word in
     let words' = add.new.0 in
     let next = c.before.before.before.before.before.before.before.before.before.before.before.before.before.before.before.added.given.0.0 in
@@ -64,17 +64,17 @@ returns c =
     let more = c.before.before.before.before.before.before.before.before.before.add_open in
     let waiting' = opens_of more.new.1.1.0 more.new.1.1.1.0 more.new.1.1.1.1.0 more.new.1.1.1.1.1.0 in
     let left = more.result in
-    let after : c.after.result ≡ leftTurn left next n.labels = c.after.ensures in
-    let word : is (take next.0 words') ≡ addWord (length words) 0 (take n.words.0 words) = sym (ap (λ (x : Added). added x words') given) ∙ add.ensures.0 in
+    let after : c.after.result ≡ left_turn left next n.labels = c.after.ensures in
+    let word : is (take next.0 words') ≡ add_word (length words) 0 (take n.words.0 words) = sym (ap (λ (x : Added). added x words') given) ∙ add.ensures.0 in
     let bound : next.0 ≡ next_of add.result = sym (ap next_of given) in
     let few : left_of left ≤ 512 = more.ensures.1 in (
       λ t labels room. ap (λ (x : Turn). turned x words' labels waiting') after ∙
-          turn-opens t o n words words' labels waiting waiting' next left (word ∙ ap (λ (k : ℕ). addWord k 0 (take n.words.0 words)) (sym room)) more.ensures.0,
+          turn-opens t o n words words' labels waiting waiting' next left (word ∙ ap (λ (k : ℕ). add_word k 0 (take n.words.0 words)) (sym room)) more.ensures.0,
       (
         omega (arith, ap words_in after, left-words left next n.labels, bound, add.ensures.1.0),
         omega (arith, ap words_in after, left-words left next n.labels, bound, add.ensures.1.1),
-        omega (arith, ap waitingIn after, left-waiting left next n.labels, few),
-        omega (arith, ap labelsIn after, left-labels left next n.labels),
+        omega (arith, ap waiting_in after, left-waiting left next n.labels, few),
+        omega (arith, ap labels_in after, left-labels left next n.labels),
       ),
     )
 
@@ -88,12 +88,12 @@ returns-2 c =
     let n = a.n in
     let words = a.words.now in
     let waiting = opens_of a.o-places.now a.o-lengths.now a.o-words.now a.o-references.now in
-    let o = openTo a.place a.size n.words.0 a.reference in
+    let o = open_to a.place a.size n.words.0 a.reference in
     let add = c.before.before.before.before.before.add-word in
     let words' = add.new.0 in
     let full = c.before.added2.given.0.0 in
-    let word : no (number_of full) ≡ addWord (length words) 0 (take n.words.0 words) = sym (ap (λ (x : Added). added x words') c.before.added2.given.1) ∙ add.ensures.0 in (
-      λ t labels room. turn-opens-full t o n words words' labels waiting waiting full (word ∙ ap (λ (k : ℕ). addWord k 0 (take n.words.0 words)) (sym room)),
+    let word : no (number_of full) ≡ add_word (length words) 0 (take n.words.0 words) = sym (ap (λ (x : Added). added x words') c.before.added2.given.1) ∙ add.ensures.0 in (
+      λ t labels room. turn-opens-full t o n words words' labels waiting waiting full (word ∙ ap (λ (k : ℕ). add_word k 0 (take n.words.0 words)) (sym room)),
       (search rules, search rules, search rules, search rules),
     )
 

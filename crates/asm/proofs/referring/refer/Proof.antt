@@ -5,9 +5,9 @@ use lib.Seq.{length-take-le}
 use mathlib.Core.Path.{◌∙◌, ◌≡◌, ap, refl, sym}
 use native.Mathlib.Omega.{arith}
 use Rattle.asm.proofs.TurnLaws.{turn-known, turn-says, turn-unknown, worded-labels, worded-waiting, worded-words}
-use Rattle.asm.specs.Views.{labelsIn, turned, waitingIn, wordedOf, words_in, workOf}
+use Rattle.asm.specs.Views.{labels_in, turned, waiting_in, worded_of, words_in, work_of}
 use Rattle.asm.specs.Work.{opens, says, task}
-use Rattle.labels.specs.Opens.{openTo, opens_of}
+use Rattle.labels.specs.Opens.{open_to, opens_of}
 use Rattle.asm.specs.declared.Turn.{Turn}
 use Rattle.instruction.specs.declared.Instruction.{Instruction}
 use borrow.Author.Rules.{rules}
@@ -46,18 +46,18 @@ returns c =
     let resolved = c.before.before.before.before.resolved in
     let add = c.before.before.before.add-instruction in
     let words' = add.new.1.0 in
-    let word : c.worded.result ≡ wordedOf add.result n = c.worded.ensures in (
+    let word : c.worded.result ≡ worded_of add.result n = c.worded.ensures in (
       λ text ls most e.
           let t = task a.rules.strict text (length words) most in
-          let w = workOf n words ls waiting in
+          let w = work_of n words ls waiting in
           ap (λ (x : Turn). turned x words' ls waiting) word ∙ turn-says n words words' ls waiting t resolved.result add.result add.ensures.0 ∙
           ap (λ (x : Instruction). says t x w) resolved.ensures ∙
           turn-known t a.reference a.place a.size w found.0.0 found.0.1.0 (sym e ∙ found.1),
       (
         omega (arith, ap words_in word, worded-words add.result n, add.ensures.1.0),
         omega (arith, ap words_in word, worded-words add.result n, add.ensures.1.1),
-        omega (arith, ap waitingIn word, worded-waiting add.result n, s.requires.0.2),
-        omega (arith, ap labelsIn word, worded-labels add.result n),
+        omega (arith, ap waiting_in word, worded-waiting add.result n, s.requires.0.2),
+        omega (arith, ap labels_in word, worded-labels add.result n),
       ),
     )
 
@@ -87,8 +87,8 @@ returns-2 c =
     let count : n.words.0 ≡ length (take n.words.0 words) = sym (length-take-le n.words.0 words s.requires.0.0) in (
       λ text ls most e.
           let t = task a.rules.strict text (length words) most in
-          let w = workOf n words ls waiting in
-          more.ensures.0 t ls refl ∙ ap (λ (x : ℕ). opens t (openTo a.place a.size x a.reference) w) count ∙
+          let w = work_of n words ls waiting in
+          more.ensures.0 t ls refl ∙ ap (λ (x : ℕ). opens t (open_to a.place a.size x a.reference) w) count ∙
           turn-unknown t a.reference a.place a.size w (sym e ∙ c.before.before.before.before.before.before.before.before.before.before.before.before.before.before.before.before.enum_told.given.1),
       more.ensures.1,
     )

@@ -5,7 +5,7 @@ use native.Mathlib.Omega.{arith}
 use Rattle.asm.proofs.DoneLaws.{done-label, done-refers, done_refused, done-says, done-skip}
 use Rattle.asm.proofs.TurnLaws.{worded-labels, worded-waiting, worded-words}
 use Rattle.asm.specs.Reading.{end_of}
-use Rattle.asm.specs.Views.{labelsIn, waitingIn, wordedOf, words_in}
+use Rattle.asm.specs.Views.{labels_in, waiting_in, worded_of, words_in}
 use Rattle.labels.specs.Opens.{opens_of}
 use borrow.Author.Rules.{rules}
 use Rattle.asm.proofs.turns.do_line.Statement.{statement}
@@ -103,13 +103,13 @@ returns-3 c =
     let waiting = opens_of a.o-places.now a.o-lengths.now a.o-words.now a.o-references.now in
     let line = c.before.before.before.before.before.before.before.line2.given in
     let add = c.before.before.before.add-instruction in
-    let word : c.worded.result ≡ wordedOf add.result n = c.worded.ensures in (
+    let word : c.worded.result ≡ worded_of add.result n = c.worded.ensures in (
       done-says a.rules.strict a.text.now a.at a.line a.f a.most n words waiting line.0.0 line.1 c.worded.result add.result add.new.1.0 word add.ensures.0,
       (
         omega (arith, ap words_in word, worded-words add.result n, add.ensures.1.0),
         omega (arith, ap words_in word, worded-words add.result n, add.ensures.1.1),
-        omega (arith, ap labelsIn word, worded-labels add.result n, s.requires.1.0.2),
-        omega (arith, ap waitingIn word, worded-waiting add.result n, s.requires.1.0.3),
+        omega (arith, ap labels_in word, worded-labels add.result n, s.requires.1.0.2),
+        omega (arith, ap waiting_in word, worded-waiting add.result n, s.requires.1.0.3),
       ),
     )
 

@@ -48,7 +48,7 @@ use Rattle.labels.specs.contracts.Label as T
 use Rattle.asm.specs.declared.Rules.{Rules}
 use Rattle.asm.specs.declared.Assembled.{Assembled}
 use Rattle.asm.specs.Assemble.{Outcome, outcome, filled}
-use Rattle.asm.specs.Views.{wordCount, labelCount}
+use Rattle.asm.specs.Views.{word_count, label_count}
 use Rattle.asm.specs.contracts.Rules as U
 use Rattle.asm.proofs.Rules.TheLaws as U'
 use Rattle.asm.specs.contracts.Assembled as R
@@ -146,7 +146,7 @@ module _ {M : Type 1} {𝓤 : Ura M} (𝓛 : Logic 𝓤) (mem : Memory → SProp
   abbrev Left : List ℕ → List Label → List (Item 𝓤)
   Left ys yl = ‵ (flft κ₀ q₀) ∷ (‵ (flft κ₁ q₁) ⊛ ‵ ftrue) ∷ (‵ (flft κ₂ q₂) ⊛ ‵ ftrue) ∷ ‵ (Text κ₀ text) ∷ ‵ (finally u16 γ ys) ∷ ‵ (finally T.the_row γ' yl) ∷ []
 
-  exits : (r : Assembled) (u : Val) (zs : List ℕ) (zl : List Label) (ys : List ℕ) (yl : List Label) (k k' : ℕ) → Is U.the_row rules (m ∷ []) → Is R.the_row r (u ∷ []) → Known r zs zl → k ≡ wordCount r → k' ≡ labelCount r
+  exits : (r : Assembled) (u : Val) (zs : List ℕ) (zl : List Label) (ys : List ℕ) (yl : List Label) (k k' : ℕ) → Is U.the_row rules (m ∷ []) → Is R.the_row r (u ∷ []) → Known r zs zl → k ≡ word_count r → k' ≡ label_count r
       → (length ys ≡ length zs) × (ys ≡ filled (length zs) (take k zs)) → (length yl ≡ length zl) × (yl ≡ Table.filled (length zl) (take k' zl)) → ent 𝓤 (⋆ 𝓛 (Left ys yl)) (Post u)
   exits r u zs zl ys yl k k' is rs e ek ek' ey ey' =
       qed 𝓛 (Left ys yl) ∵
@@ -195,8 +195,8 @@ module _ {M : Type 1} {𝓤 : Ura M} (𝓛 : Logic 𝓤) (mem : Memory → SProp
         assigns ! (agg ! (and_then ! (load ! (from ! (stop !)) (look ! 26 refl)) (and_then ! (lit ! tt) (no_more !)))) (from ! (stop !)) (init ! 24 refl (tt, (tt, (record { fits = lit< tt }, tt)))) $
         move ! (64 ∷ []) $ split ! $ move ! (1 ∷ []) $ split ! $ move ! (1 ∷ []) $ split ! $ move ! (68 ∷ []) $ fsplit ! $ move ! (1 ∷ []) $ fsplit ! $ move ! (1 ∷ []) $ fsplit ! $ move ! (1 ∷ []) $ fsplit ! $
         -- words and table are lent again, each for a lifetime that is made here
-        lft_new ! tt (λ ν. move ! (3 ∷ 8 ∷ []) $ use2 𝓛 (later (some (λ (δ : GName). ‵ (lending.Lent-words b o (length ws) ν δ ws) ⊛ ‵ (LentAgain u16 κ₁ (ν ∷ []) q₁ γ b o δ ws)))) (lends_again u16 κ₁ (ν ∷ []) q₁ γ b o 𝓛 (named 1) (named 1) ws) $ await ! tt $ pick ! (λ δ. split ! $
-        lft_new ! tt (λ ν'. move ! (4 ∷ 8 ∷ []) $ use2 𝓛 (later (some (λ (δ' : GName). ‵ (lending.Lent-table b' o' (length ls) ν' δ' ls) ⊛ ‵ (LentAgain T.the_row κ₂ (ν' ∷ []) q₂ γ' b' o' δ' ls)))) (lends_again T.the_row κ₂ (ν' ∷ []) q₂ γ' b' o' 𝓛 (named 2) (named 2) ls) $ await ! tt $ pick ! (λ δ'. split ! $
+        lft_new ! tt (λ ν. move ! (3 ∷ 8 ∷ []) $ use2 𝓛 (later (some (λ (δ : GName). ‵ (lending.LentWords b o (length ws) ν δ ws) ⊛ ‵ (LentAgain u16 κ₁ (ν ∷ []) q₁ γ b o δ ws)))) (lends_again u16 κ₁ (ν ∷ []) q₁ γ b o 𝓛 (named 1) (named 1) ws) $ await ! tt $ pick ! (λ δ. split ! $
+        lft_new ! tt (λ ν'. move ! (4 ∷ 8 ∷ []) $ use2 𝓛 (later (some (λ (δ' : GName). ‵ (lending.LentTable b' o' (length ls) ν' δ' ls) ⊛ ‵ (LentAgain T.the_row κ₂ (ν' ∷ []) q₂ γ' b' o' δ' ls)))) (lends_again T.the_row κ₂ (ν' ∷ []) q₂ γ' b' o' 𝓛 (named 2) (named 2) ls) $ await ! tt $ pick ! (λ δ'. split ! $
         move ! (3 ∷ 0 ∷ 20 ∷ 17 ∷ 14 ∷ 11 ∷ 5 ∷ 2 ∷ 22 ∷ 19 ∷ 16 ∷ 13 ∷ 10 ∷ 9 ∷ 8 ∷ 7 ∷ []) $ group ! 16 $ use1 𝓛 (raw ((Lines 𝓛 mem run).pre (to-lines ν ν' α₃ α₄ α₅ α₆ l₅ l₆ l₇ l₈ δ δ' γ₃ γ₄ γ₅ γ₆)) ⊛ ‵ (Text κ₀ text)) (lending.goes_lines 𝓛 mem run κ₀ q₀ rules text b o ws b' o' ls ν ν' α₃ α₄ α₅ α₆ l₅ l₆ l₇ l₈ δ δ' γ₃ γ₄ γ₅ γ₆) $ split ! $
         -- [what `assemble_lines` asks; the text's; what is kept of the table, of the words and of the arrays; true; _27; …]
         calls_at ! fm (Lines 𝓛 mem run) known-lines (to-lines ν ν' α₃ α₄ α₅ α₆ l₅ l₆ l₇ l₈ δ δ' γ₃ γ₄ γ₅ γ₆)
@@ -219,7 +219,7 @@ module _ {M : Type 1} {𝓤 : Ura M} (𝓛 : Logic 𝓤) (mem : Memory → SProp
         assigns ! (agg ! (and_then ! (load ! (from ! (stop !)) (look ! 20 refl)) (and_then ! (load ! (from ! (fld ! refl (stop !))) (look_in ! 56 (sub ! 1 refl (whole !)))) (no_more !)))) (from ! (stop !)) (init ! 18 refl (tt, (tt, (record { fits = g.0 }, tt)))) $
         use0 𝓛 (raw ((WordsLeft 𝓛 mem run).pre (to-words-left 𝓛 mem run r u))) (goes-words-left 𝓛 mem run r u rs) $
         calls_at ! fm (WordsLeft 𝓛 mem run) known-words-left (to-words-left 𝓛 mem run r u) (and_then ! (load ! (from ! (stop !)) (look ! 49 refl)) (no_more !)) (λ x.
-        use1 𝓛 (later (some (λ (k : ℕ). (‵ ftrue ⊛ ‵ (usize.own_val k (x ∷ []))) ⊛ raw (WordsLeftSays 𝓛 mem run r k)))) (id⊢ 𝓤 _) $ await ! tt $ pick ! (λ k. split ! $ move ! (1 ∷ []) $ use1 𝓛 (raw (fact 𝓤 (k ≡ wordCount r))) (said-words-left 𝓛 mem run r k) $ heard ! (k ≡ wordCount r) (λ ek. split ! $ move ! (1 ∷ []) $ peeks ! usize (Is usize) (shows 𝓛 usize) k (x ∷ []) (λ ks.
+        use1 𝓛 (later (some (λ (k : ℕ). (‵ ftrue ⊛ ‵ (usize.own_val k (x ∷ []))) ⊛ raw (WordsLeftSays 𝓛 mem run r k)))) (id⊢ 𝓤 _) $ await ! tt $ pick ! (λ k. split ! $ move ! (1 ∷ []) $ use1 𝓛 (raw (fact 𝓤 (k ≡ word_count r))) (said-words-left 𝓛 mem run r k) $ heard ! (k ≡ word_count r) (λ ek. split ! $ move ! (1 ∷ []) $ peeks ! usize (Is usize) (shows 𝓛 usize) k (x ∷ []) (λ ks.
         land ! (from ! (stop !)) (init ! 18 refl ((uint_Lawful 𝓛 w64).typed k _ ks).0) $ move ! (8 ∷ 9 ∷ 0 ∷ []) $ use3 𝓛 (raw ((ClearWords 𝓛 mem run).pre (to-clear-words 𝓛 mem run κ₁ q₁ b o (length ws) γ k x zs.0))) (goes-clear-words 𝓛 mem run κ₁ q₁ b o (length ws) γ k x zs.0) $
         calls_at ! fm (ClearWords 𝓛 mem run) known-clear-words (to-clear-words 𝓛 mem run κ₁ q₁ b o (length ws) γ k x zs.0) (and_then ! (load ! (from ! (stop !)) (look ! 18 refl)) (and_then ! (load ! (from ! (stop !)) (look ! 16 refl)) (no_more !))) (λ y.
         use1 𝓛 (later (some (λ (z : Unit {0}). ((‵ (flft κ₁ q₁) ⊛ ‵ ftrue) ⊛ ‵ (unit.own_val z (y ∷ []))) ⊛ raw (ClearWordsSays 𝓛 mem run κ₁ q₁ b o (length ws) γ k x zs.0)))) (id⊢ 𝓤 _) $ await ! tt $ pick ! (λ z. split ! $ move ! (1 ∷ []) $
@@ -230,7 +230,7 @@ module _ {M : Type 1} {𝓤 : Ura M} (𝓛 : Logic 𝓤) (mem : Memory → SProp
         assigns ! (agg ! (and_then ! (load ! (from ! (stop !)) (look ! 15 refl)) (and_then ! (load ! (from ! (fld ! refl (stop !))) (look_in ! 55 (sub ! 1 refl (whole !)))) (no_more !)))) (from ! (stop !)) (init ! 13 refl (tt, (tt, (record { fits = g'.0 }, tt)))) $
         use0 𝓛 (raw ((LabelsLeft 𝓛 mem run).pre (to-labels-left 𝓛 mem run r u))) (goes-labels-left 𝓛 mem run r u rs) $
         calls_at ! fm (LabelsLeft 𝓛 mem run) known-labels-left (to-labels-left 𝓛 mem run r u) (and_then ! (load ! (from ! (stop !)) (look ! 50 refl)) (no_more !)) (λ x'.
-        use1 𝓛 (later (some (λ (k : ℕ). (‵ ftrue ⊛ ‵ (usize.own_val k (x' ∷ []))) ⊛ raw (LabelsLeftSays 𝓛 mem run r k)))) (id⊢ 𝓤 _) $ await ! tt $ pick ! (λ k'. split ! $ move ! (1 ∷ []) $ use1 𝓛 (raw (fact 𝓤 (k' ≡ labelCount r))) (said-labels-left 𝓛 mem run r k') $ heard ! (k' ≡ labelCount r) (λ ek'. split ! $ move ! (1 ∷ []) $ peeks ! usize (Is usize) (shows 𝓛 usize) k' (x' ∷ []) (λ ks'.
+        use1 𝓛 (later (some (λ (k : ℕ). (‵ ftrue ⊛ ‵ (usize.own_val k (x' ∷ []))) ⊛ raw (LabelsLeftSays 𝓛 mem run r k)))) (id⊢ 𝓤 _) $ await ! tt $ pick ! (λ k'. split ! $ move ! (1 ∷ []) $ use1 𝓛 (raw (fact 𝓤 (k' ≡ label_count r))) (said-labels-left 𝓛 mem run r k') $ heard ! (k' ≡ label_count r) (λ ek'. split ! $ move ! (1 ∷ []) $ peeks ! usize (Is usize) (shows 𝓛 usize) k' (x' ∷ []) (λ ks'.
         land ! (from ! (stop !)) (store ! 19 refl ((uint_Lawful 𝓛 w64).typed k' _ ks').0) $ move ! (9 ∷ 10 ∷ 0 ∷ []) $ use3 𝓛 (raw ((ClearTable 𝓛 mem run).pre (to_clear 𝓛 mem run κ₂ q₂ b' o' (length ls) γ' k' x' zs.1))) (goes-clear 𝓛 mem run κ₂ q₂ b' o' (length ls) γ' k' x' zs.1) $
         calls_at ! fm (ClearTable 𝓛 mem run) known-clear (to_clear 𝓛 mem run κ₂ q₂ b' o' (length ls) γ' k' x' zs.1) (and_then ! (load ! (from ! (stop !)) (look ! 13 refl)) (and_then ! (load ! (from ! (stop !)) (look ! 17 refl)) (no_more !))) (λ y'.
         use1 𝓛 (later (some (λ (z : Unit {0}). ((‵ (flft κ₂ q₂) ⊛ ‵ ftrue) ⊛ ‵ (unit.own_val z (y' ∷ []))) ⊛ raw (ClearSays 𝓛 mem run κ₂ q₂ b' o' (length ls) γ' k' x' zs.1)))) (id⊢ 𝓤 _) $ await ! tt $ pick ! (λ z'. split ! $ move ! (1 ∷ []) $

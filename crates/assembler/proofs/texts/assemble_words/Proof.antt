@@ -48,7 +48,7 @@ use Rattle.labels.specs.contracts.Label as T
 use Rattle.labels.proofs.Label.TheLaws as T'
 use Rattle.asm.specs.declared.Rules.{Rules}
 use Rattle.asm.specs.declared.Assembled.{Assembled}
-use Rattle.asm.specs.Assemble.{outcome, words_of, labelsLeft, filled, report, reported}
+use Rattle.asm.specs.Assemble.{outcome, words_of, labels_left, filled, report, reported}
 use Rattle.asm.specs.contracts.Rules as U
 use Rattle.asm.proofs.Rules.TheLaws as U'
 use Rattle.asm.specs.contracts.Assembled as R
@@ -160,16 +160,16 @@ module _ {M : Type 1} {𝓤 : Ura M} (𝓛 : Logic 𝓤) (mem : Memory → SProp
     abbrev to-assemble : (Whole 𝓛 mem run).Ghost
     to-assemble = ((κs, qs, tt, passed, (m ∷ [], (v text ∷ [], (v words ∷ [], (s ∷ [], tt))))), tt)
 
-    abbrev Table-owns : Fml
-    Table-owns = (MutSlice (named 2) (α ∷ []) T.the_row).own_val lent (s ∷ [])
+    abbrev TableOwns : Fml
+    TableOwns = (MutSlice (named 2) (α ∷ []) T.the_row).own_val lent (s ∷ [])
 
     asks : ent 𝓤 (on_entry 𝓛 assemble.signature κs qs passed (m ∷ [], (v text ∷ [], (v words ∷ [], (s ∷ [], tt))))) ((Whole 𝓛 mem run).pre to-assemble)
     asks =
         qed 𝓛 (tokens ∷ ‵ (owns (U.the_row ∷ ShrSlice (named 0) κ₀ u8 ∷ MutSlice (named 1) κ₁ u16 ∷ MutSlice (named 2) (α ∷ []) T.the_row ∷ []) passed (m ∷ [], (v text ∷ [], (v words ∷ [], (s ∷ [], tt))))) ∷ []) ∵ join ! $ frame ! $ done !
 
-    goes : ent 𝓤 (⋆ 𝓛 (‵ Table-owns ∷ ‵ (flft (α ∷ []) full_share) ∷ alive ∷ ‵ args ∷ [])) (sep 𝓤 ((Whole 𝓛 mem run).pre to-assemble) (sem 𝓛 O₁))
+    goes : ent 𝓤 (⋆ 𝓛 (‵ TableOwns ∷ ‵ (flft (α ∷ []) full_share) ∷ alive ∷ ‵ args ∷ [])) (sep 𝓤 ((Whole 𝓛 mem run).pre to-assemble) (sem 𝓛 O₁))
     goes =
-        qed 𝓛 (‵ Table-owns ∷ ‵ (flft (α ∷ []) full_share) ∷ alive ∷ ‵ args ∷ []) ∵
+        qed 𝓛 (‵ TableOwns ∷ ‵ (flft (α ∷ []) full_share) ∷ alive ∷ ‵ args ∷ []) ∵
         move ! (2 ∷ []) $ split ! $ move ! (1 ∷ []) $ split ! $
         -- [κ₁; true; κ₀; the table's; α; args]
         move ! (4 ∷ 1 ∷ []) $ join ! $ move ! (1 ∷ 0 ∷ []) $ join ! $ move ! (1 ∷ 0 ∷ []) $ join ! $
@@ -193,7 +193,7 @@ module _ {M : Type 1} {𝓤 : Ura M} (𝓛 : Logic 𝓤) (mem : Memory → SProp
     Words ws = ws ≡ filled (length words.now) (words_of (outcome rules.strict text.now (length words.now) (length none)))
 
     abbrev Labels : List Label → Type 0
-    Labels ls = ls ≡ Table.filled (length none) (labelsLeft (outcome rules.strict text.now (length words.now) (length none)))
+    Labels ls = ls ≡ Table.filled (length none) (labels_left (outcome rules.strict text.now (length words.now) (length none)))
 
     -- of what `assemble` ensures: the last words and the last table, and what is known of the words
     abbrev Told : Assembled → List ℕ × List Label → SProp 𝓤
@@ -238,7 +238,7 @@ module _ {M : Type 1} {𝓤 : Ura M} (𝓛 : Logic 𝓤) (mem : Memory → SProp
         assigns ! (agg ! (and_then ! (load ! (from ! (stop !)) (look ! 3 refl)) (and_then ! (big-lit ! (record { fits = lit< tt })) (no_more !)))) (from ! (stop !)) (init ! 1 refl (tt, (tt, (record { fits = lit< tt }, tt)))) $
         -- the table is lent for a lifetime that is made here
         lft_new ! tt (λ α. move ! (12 ∷ 1 ∷ []) $
-        use2 𝓛 (later (some (λ (γ : GName). ‵ (Table-owns α l₄ γ) ⊛ ‵ (flent (α ∷ []) (Held T.the_row count l₄ 0 γ))))) (lends T.the_row count l₄ 𝓛 tt room (named 2) (α ∷ []) (replicate count mach) none) $ await ! tt $ pick ! (λ γ. split ! $
+        use2 𝓛 (later (some (λ (γ : GName). ‵ (TableOwns α l₄ γ) ⊛ ‵ (flent (α ∷ []) (Held T.the_row count l₄ 0 γ))))) (lends T.the_row count l₄ 𝓛 tt room (named 2) (α ∷ []) (replicate count mach) none) $ await ! tt $ pick ! (λ γ. split ! $
         -- [the slice; the lender's part; α; _9; …; _8; …; _7; …; _6; …; _5; …; the end of _4; _3; …; _2; …; _1; …; _0; …; the tokens; args]
         move ! (0 ∷ 2 ∷ 22 ∷ 23 ∷ []) $ group ! 4 $ use1 𝓛 (raw ((Whole 𝓛 mem run).pre (to-assemble α l₄ γ)) ⊛ ‵ O₁) (goes α l₄ γ) $ split ! $
         calls_at ! fm (Whole 𝓛 mem run) known (to-assemble α l₄ γ)

@@ -6,14 +6,14 @@ use lib.Seq.{sets, take_all}
 use native.Mathlib.Omega.{arith}
 use Rattle.wordbytes.specs.Words.{bytes_of}
 use Rattle.map.specs.Entries.{device}
-use Rattle.block.specs.Block.{deviceWords}
-use Rattle.block.proofs.Tables.{deviceTable, table-start, table-next}
+use Rattle.block.specs.Block.{device_words}
+use Rattle.block.proofs.Tables.{device_table, table-start, table-next}
 use borrow.Author.Rules.{rules}
 use Rattle.block.proofs.packing.put_devices.Statement.{statement}
 use Rattle.block.proofs.packing.put_devices.Tie as tie
 
 abbrev invariant-loop : tie.invariant-loop
-invariant-loop block₀ i table n₀ block n = (n ≤ 8) × (length block ≡ length block₀) × (block ≡ sets block₀ i (bytes_of (deviceWords (take n table))))
+invariant-loop block₀ i table n₀ block n = (n ≤ 8) × (length block ≡ length block₀) × (block ≡ sets block₀ i (bytes_of (device_words (take n table))))
 
 abbrev decreases-loop : tie.decreases-loop
 decreases-loop block₀ i table n₀ block n = 8 - n
@@ -22,7 +22,7 @@ long : (c : tie.Start invariant-loop decreases-loop) → length c.args.t3 ≡ 8
 long c = c.well-formed.1.1.0.1.0.1
 
 loop-holds : tie.Need-loop-init invariant-loop decreases-loop
-loop-holds c = (omega arith, refl, table-start deviceTable _ _)
+loop-holds c = (omega arith, refl, table-start device_table _ _)
 
 mul-d : tie.Need-overflow-mul-d invariant-loop decreases-loop
 mul-d c = search rules
@@ -52,7 +52,7 @@ loop-again c =
     let l : h.n < length s.t3 = omega (arith, c.before.before.before.before.before.loop-test.true, long c.before.before.before.before.before.before.before.before) in (
       search rules,
       c.before.before.put_two.auto.0 ∙ h.invariant.1,
-      c.before.before.put_two.ensures ∙ rw h.invariant.2 (table-next deviceTable s.block.now s.i s.t3 h.n (device 0 0) l),
+      c.before.before.put_two.ensures ∙ rw h.invariant.2 (table-next device_table s.block.now s.i s.t3 h.n (device 0 0) l),
     )
 
 same_length : tie.Need-same-length invariant-loop decreases-loop

@@ -6,14 +6,14 @@ use lib.Seq.{sets, take_all}
 use native.Mathlib.Omega.{arith}
 use Rattle.wordbytes.specs.Words.{bytes_of}
 use Rattle.map.specs.Entries.{region}
-use Rattle.block.specs.Block.{regionWords}
-use Rattle.block.proofs.Tables.{regionTable, table-start, table-next}
+use Rattle.block.specs.Block.{region_words}
+use Rattle.block.proofs.Tables.{region_table, table-start, table-next}
 use borrow.Author.Rules.{rules}
 use Rattle.block.proofs.packing.put_regions.Statement.{statement}
 use Rattle.block.proofs.packing.put_regions.Tie as tie
 
 abbrev invariant-loop : tie.invariant-loop
-invariant-loop block₀ i table n₀ block n = (n ≤ 8) × (length block ≡ length block₀) × (block ≡ sets block₀ i (bytes_of (regionWords (take n table))))
+invariant-loop block₀ i table n₀ block n = (n ≤ 8) × (length block ≡ length block₀) × (block ≡ sets block₀ i (bytes_of (region_words (take n table))))
 
 abbrev decreases-loop : tie.decreases-loop
 decreases-loop block₀ i table n₀ block n = 8 - n
@@ -22,7 +22,7 @@ long : (c : tie.Start invariant-loop decreases-loop) → length c.args.t3 ≡ 8
 long c = c.well-formed.1.1.0.1.0.1
 
 loop-holds : tie.Need-loop-init invariant-loop decreases-loop
-loop-holds c = (omega arith, refl, table-start regionTable _ _)
+loop-holds c = (omega arith, refl, table-start region_table _ _)
 
 mul-r : tie.Need-overflow-mul-r invariant-loop decreases-loop
 mul-r c = search rules
@@ -52,7 +52,7 @@ loop-again c =
     let l : h.n < length s.t3 = omega (arith, c.before.before.before.before.before.loop-test.true, long c.before.before.before.before.before.before.before.before) in (
       search rules,
       c.before.before.put_two.auto.0 ∙ h.invariant.1,
-      c.before.before.put_two.ensures ∙ rw h.invariant.2 (table-next regionTable s.block.now s.i s.t3 h.n (region 0 0) l),
+      c.before.before.put_two.ensures ∙ rw h.invariant.2 (table-next region_table s.block.now s.i s.t3 h.n (region 0 0) l),
     )
 
 same_length : tie.Need-same-length invariant-loop decreases-loop

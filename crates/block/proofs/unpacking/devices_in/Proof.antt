@@ -1,5 +1,5 @@
 -- Eight entries stand four bytes apart. Assumes nothing.
-use Rattle.block.specs.Block.{devicesFrom}
+use Rattle.block.specs.Block.{devices_from}
 use borrow.Author.Rules.{rules}
 use Rattle.block.proofs.unpacking.devices_in.Statement.{statement}
 use Rattle.block.proofs.unpacking.devices_in.Tie as tie
@@ -29,7 +29,7 @@ device-at-requires-8 : tie.Need-device-at-requires-8
 device-at-requires-8 c κs = search rules
 
 returns : tie.Need-returns
-unfolding devicesFrom
+unfolding devices_from
 returns c =
     rw (
       c.before.before.before.before.before.before.before.device-at.ensures,

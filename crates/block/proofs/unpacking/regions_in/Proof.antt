@@ -1,5 +1,5 @@
 -- Eight entries stand four bytes apart. Assumes nothing.
-use Rattle.block.specs.Block.{regionsFrom}
+use Rattle.block.specs.Block.{regions_from}
 use borrow.Author.Rules.{rules}
 use Rattle.block.proofs.unpacking.regions_in.Statement.{statement}
 use Rattle.block.proofs.unpacking.regions_in.Tie as tie
@@ -29,7 +29,7 @@ region-at-requires-8 : tie.Need-region-at-requires-8
 region-at-requires-8 c κs = search rules
 
 returns : tie.Need-returns
-unfolding regionsFrom
+unfolding regions_from
 returns c =
     rw (
       c.before.before.before.before.before.before.before.region-at.ensures,

@@ -2,9 +2,9 @@
 use mathlib.Core.Path.{◌≡◌, sym, ap, ◌∙◌}
 use mathlib.Core.Bool.{true, false}
 use borrow.Author.Tests.{not-true, not-false}
-use Rattle.base.specs.Numbers.{answerNumber}
+use Rattle.base.specs.Numbers.{answer_number}
 use Rattle.journal.specs.States.{valid}
-use Rattle.host.specs.Host.{settled, registerNumber, registerState}
+use Rattle.host.specs.Host.{settled, register_number, register_state}
 use Rattle.host.proofs.Below.{register-number, register-state}
 use borrow.Author.Rules.{rules}
 use Rattle.host.proofs.entries.register_device.Statement.{statement}
@@ -17,7 +17,7 @@ bad-state-requires : tie.Need-bad-state-requires
 bad-state-requires c κs = search rules
 
 returns : tie.Need-returns
-unfolding settled registerNumber registerState
+unfolding settled register_number register_state
 returns c =
     let s = c.before.before.before.before.before.args in
     let v : valid s.s s.dev.now s.journal.now ≡ false =
@@ -40,7 +40,7 @@ returns-2 c =
     sym c.before.before.before.before.before.before.before.valid.ensures ∙ not-false _ c.before.before.before.before.before.before.if1.false in
     let q = c.before.before.before.register-device.ensures in
     let r = c.settled.ensures in
-    (ap answerNumber r.0 ∙ q.0 ∙ register-number s.s s.dev.now s.journal.now v s.start s.size, r.1 ∙ rw (c.before.with-map.ensures, q.0, q.1) (register-state s.s s.dev.now s.journal.now v s.start s.size))
+    (ap answer_number r.0 ∙ q.0 ∙ register-number s.s s.dev.now s.journal.now v s.start s.size, r.1 ∙ rw (c.before.with-map.ensures, q.0, q.1) (register-state s.s s.dev.now s.journal.now v s.start s.size))
 
 pub register-device-spec : {M : Type 1} → statement M
 register-device-spec =

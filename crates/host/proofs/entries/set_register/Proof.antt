@@ -2,9 +2,9 @@
 use mathlib.Core.Path.{◌≡◌, sym, ap, ◌∙◌}
 use mathlib.Core.Bool.{true, false}
 use borrow.Author.Tests.{not-true, not-false}
-use Rattle.base.specs.Numbers.{answerNumber}
+use Rattle.base.specs.Numbers.{answer_number}
 use Rattle.journal.specs.States.{valid}
-use Rattle.host.specs.Host.{settled, setNumber, setState}
+use Rattle.host.specs.Host.{settled, set_number, set_state}
 use Rattle.host.proofs.Below.{set-number, set-state}
 use borrow.Author.Rules.{rules}
 use Rattle.host.proofs.entries.set_register.Statement.{statement}
@@ -17,7 +17,7 @@ bad-state-requires : tie.Need-bad-state-requires
 bad-state-requires c κs = search rules
 
 returns : tie.Need-returns
-unfolding settled setNumber setState
+unfolding settled set_number set_state
 returns c =
     let s = c.before.before.before.before.before.args in
     let v : valid s.s s.dev.now s.journal.now ≡ false =
@@ -37,7 +37,7 @@ returns-2 c =
     sym c.before.before.before.before.before.valid.ensures ∙ not-false _ c.before.before.before.before.if1.false in
     let q = c.before.before.set-register.ensures in
     let r = c.settled.ensures in
-    (ap answerNumber r.0 ∙ q.0 ∙ set-number s.s s.dev.now s.journal.now v s.number, r.1 ∙ rw (q.0, q.1) (set-state s.s s.dev.now s.journal.now v s.number s.value))
+    (ap answer_number r.0 ∙ q.0 ∙ set-number s.s s.dev.now s.journal.now v s.number, r.1 ∙ rw (q.0, q.1) (set-state s.s s.dev.now s.journal.now v s.number s.value))
 
 pub set-register-spec : {M : Type 1} → statement M
 set-register-spec =

@@ -5,7 +5,7 @@ use borrow.Author.Tests.{not-true, not-false}
 use Rattle.memory.specs.Bytes.{lent}
 use Rattle.memory.specs.Program as memory
 use Rattle.journal.specs.States.{valid}
-use Rattle.host.specs.Host.{past, begins, loadNumber, loadState, loadBytes}
+use Rattle.host.specs.Host.{past, begins, load_number, load_state, load_bytes}
 use Rattle.host.proofs.Below.{load-number, load-map, load-bytes, begins-past}
 use borrow.Author.Rules.{rules}
 use Rattle.host.proofs.loads.write_program.Statement.{statement}
@@ -21,7 +21,7 @@ same_length : tie.Need-same-length
 same_length c = search rules
 
 returns : tie.Need-returns
-unfolding loadNumber begins loadState loadBytes
+unfolding load_number begins load_state load_bytes
 returns c =
     let s = c.before.before.before.before.before.before.before.before.args in
     let v : valid s.s s.dev.now s.journal.now ≡ false =
@@ -41,7 +41,7 @@ same-length-3 : tie.Need-same-length-3
 same-length-3 c = search rules
 
 returns-2 : tie.Need-returns-2
-unfolding loadState
+unfolding load_state
 returns-2 c =
     let load = c.before.before.before.before.before.before in
     let s = load.before.before.before.before.before.before.before.before.before.before.before.before.args in
@@ -49,7 +49,7 @@ returns-2 c =
     let v : valid s.s s.dev.now s.journal.now ≡ true =
     sym load.before.before.before.before.before.before.valid.ensures ∙ not-false _ load.before.before.before.before.before.if1.false in
     let q = load.write-program.ensures in
-    let p : past (memory.loadNumber s.s.machine.map bytes s.words.now) ≡ false =
+    let p : past (memory.load_number s.s.machine.map bytes s.words.now) ≡ false =
     ap past (sym q.0) ∙ sym c.before.is-past.ensures ∙ not-true _ c.if2.true in
     let g = begins-past s.s bytes s.journal.now v s.words.now ∙ p in
     let n = q.0 ∙ load-number s.s bytes s.journal.now v s.words.now in
@@ -69,7 +69,7 @@ same-length-5 : tie.Need-same-length-5
 same-length-5 c = search rules
 
 returns-3 : tie.Need-returns-3
-unfolding loadState
+unfolding load_state
 returns-3 c =
     let load = c.before.before.before.before.before.before.before.before.before in
     let s = load.before.before.before.before.before.before.before.before.before.before.before.before.args in
@@ -77,7 +77,7 @@ returns-3 c =
     let v : valid s.s s.dev.now s.journal.now ≡ true =
     sym load.before.before.before.before.before.before.valid.ensures ∙ not-false _ load.before.before.before.before.before.if1.false in
     let q = load.write-program.ensures in
-    let p : past (memory.loadNumber s.s.machine.map bytes s.words.now) ≡ true =
+    let p : past (memory.load_number s.s.machine.map bytes s.words.now) ≡ true =
     ap past (sym q.0) ∙ sym c.before.before.before.before.is-past.ensures ∙ not-false _ c.before.before.before.if2.false in
     let g = begins-past s.s bytes s.journal.now v s.words.now ∙ p in
     let n = q.0 ∙ load-number s.s bytes s.journal.now v s.words.now in

@@ -8,8 +8,8 @@ use native.Mathlib.Omega.{arith}
 use lib.ListN.{length}
 use Rattle.memory.specs.Bytes.{lent}
 use Rattle.memory.proofs.Orders.{counting-none, copying-none}
-use Rattle.host.specs.Host.{readNumber, readOut, readOutBuffer}
-use Rattle.host.proofs.Below.{read_out, read-buffer}
+use Rattle.host.specs.Host.{read_number, read_out, read_out_buffer}
+use Rattle.host.proofs.Below.{read-out, read-buffer}
 use borrow.Author.Rules.{rules}
 use Rattle.host.proofs.reads.read_out.Statement.{statement}
 use Rattle.host.proofs.reads.read_out.Tie as tie
@@ -18,7 +18,7 @@ valid-requires : tie.Need-valid-requires
 valid-requires c κs = search rules
 
 returns : tie.Need-returns
-unfolding readNumber readOut readOutBuffer
+unfolding read_number read_out read_out_buffer
 returns c =
     let s = c.before.before.before.before.before.before.args in
     let v : valid s.s s.dev.now s.journal.now ≡ false =
@@ -42,7 +42,7 @@ returns-2 c =
     sym c.before.before.before.before.before.before.before.valid.ensures ∙ not-false _ c.before.before.before.before.before.before.if1.false in
     let q = c.before.before.read_out.ensures in
     let bytes = lent s.mem.now s.dev.now in
-    (q.0 ∙ read_out s.s bytes s.journal.now v s.start s.size (length s.buffer.now), q.1 ∙ read-buffer s.s bytes s.journal.now v s.start s.size s.buffer.now)
+    (q.0 ∙ read-out s.s bytes s.journal.now v s.start s.size (length s.buffer.now), q.1 ∙ read-buffer s.s bytes s.journal.now v s.start s.size s.buffer.now)
 
 pub read-out-spec : {M : Type 1} → statement M
 read-out-spec = tie.close (tie.spec valid-requires returns read-out-requires same_length returns-2)

@@ -1,6 +1,6 @@
 -- Each edition has its own decoder. Assumes nothing.
 use borrow.Author.Rules.{rules}
-use Rattle.instruction.specs.Editions.{decodeIn}
+use Rattle.instruction.specs.Editions.{decode_in}
 use Rattle.instruction.proofs.editions.decode_in.Statement.{statement}
 use Rattle.instruction.proofs.editions.decode_in.Tie as tie
 
@@ -17,7 +17,7 @@ decode-second-requires : tie.Need-decode-second-requires
 decode-second-requires c κs = search rules
 
 returns : tie.Need-returns
-unfolding decodeIn
+unfolding decode_in
 returns c = rw c.before.enum_told.given.1 c.decode.ensures
 
 returns-2 : tie.Need-returns-2

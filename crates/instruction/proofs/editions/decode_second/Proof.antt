@@ -1,7 +1,7 @@
 -- The code's test of the low four bits is the definition's. Assumes nothing.
 use borrow.Author.Tests.{ne_eqb}
 use borrow.Author.Rules.{rules}
-use Rattle.instruction.specs.Editions.{decodeIn}
+use Rattle.instruction.specs.Editions.{decode_in}
 use Rattle.instruction.proofs.editions.decode_second.Statement.{statement}
 use Rattle.instruction.proofs.editions.decode_second.Tie as tie
 
@@ -12,14 +12,14 @@ operand-at-requires : tie.Need-operand-at-requires
 operand-at-requires c κs = search rules
 
 returns : tie.Need-returns
-unfolding decodeIn
+unfolding decode_in
 returns c = rw (← c.before.before.field.ensures, c.before.if1.true, c.Operand-at.ensures)
 
 decode-requires : tie.Need-decode-requires
 decode-requires c κs = search rules
 
 returns-2 : tie.Need-returns-2
-unfolding decodeIn
+unfolding decode_in
 returns-2 c = rw (← c.before.before.field.ensures, ne_eqb c.before.before.field.result 5 c.before.if1.false) c.decode.ensures
 
 pub decode-second-spec : {M : Type 1} → statement M

@@ -1,7 +1,7 @@
 -- The test decides between the emptied journal and 1. Assumes nothing.
 use mathlib.Core.Path.{sym, ◌∙◌}
 use borrow.Author.Tests.{not-true, not-false}
-use Rattle.journal.specs.Back.{forgetNumber, forgotten}
+use Rattle.journal.specs.Back.{forget_number, forgotten}
 use borrow.Author.Rules.{rules}
 use Rattle.journal.proofs.backs.forget.Statement.{statement}
 use Rattle.journal.proofs.backs.forget.Tie as tie
@@ -13,13 +13,13 @@ refused-requires : tie.Need-refused-requires
 refused-requires c κs = search rules
 
 returns : tie.Need-returns
-unfolding forgetNumber forgotten
+unfolding forget_number forgotten
 returns c =
     let v = sym c.before.before.valid.ensures ∙ not-true _ c.before.if1.true in
     (c.refused.ensures.0 ∙ rw v, c.refused.ensures.1 ∙ rw v)
 
 returns-2 : tie.Need-returns-2
-unfolding forgetNumber forgotten
+unfolding forget_number forgotten
 returns-2 c =
     let v = sym c.before.before.valid.ensures ∙ not-false _ c.before.if1.false in
     (rw v, rw v)

@@ -7,7 +7,7 @@ use Prim.Native.Nat.{◌<◌}
 use Rattle.memory.specs.Bytes.{lent}
 use Rattle.records.specs.Slots.{room}
 use Rattle.records.proofs.Ring.{before-lt}
-use Rattle.journal.specs.States.{Whole, whole, validWhole}
+use Rattle.journal.specs.States.{Whole, whole, valid_whole}
 use Rattle.journal.specs.Back.{newest}
 use Rattle.journal.proofs.StateLaws.{held_next}
 use Rattle.journal.proofs.BackLaws.{back-invalid, back_none}
@@ -29,7 +29,7 @@ returns : tie.Need-returns
 returns c =
     let s = c.before.before.before.before.before.before.before.args in
     let w : Whole = whole s.s (lent s.mem.now s.dev.now) s.journal.now in
-    let v : validWhole w ≡ false =
+    let v : valid_whole w ≡ false =
     sym c.before.before.valid.ensures ∙ not-true _ c.before.if1.true in
     rw (c.refused.ensures.0, c.refused.ensures.1) (sym (back-invalid w v))
 
@@ -43,7 +43,7 @@ returns-2 : tie.Need-returns-2
 returns-2 c =
     let s = c.before.before.before.before.before.before.before.before.before.args in
     let w : Whole = whole s.s (lent s.mem.now s.dev.now) s.journal.now in
-    let v : validWhole w ≡ true =
+    let v : valid_whole w ≡ true =
     sym c.before.before.before.before.valid.ensures ∙ not-false _ c.before.before.before.if1.false in
     rw (c.refused2.ensures.0, c.refused2.ensures.1) (sym (back_none w v c.before.if2.true))
 
@@ -54,7 +54,7 @@ slot-before-requires : tie.Need-slot-before-requires
 slot-before-requires c κs =
     let s = c.before.before.before.before.before.before.before.before.before.args in
     let w : Whole = whole s.s (lent s.mem.now s.dev.now) s.journal.now in
-    let v : validWhole w ≡ true =
+    let v : valid_whole w ≡ true =
     sym c.before.before.before.before.valid.ensures ∙ not-false _ c.before.before.before.if1.false in
     rw c.room.ensures (held_next s.s s.dev.now s.journal.now v c.before.if2.false)
 
@@ -62,7 +62,7 @@ read-requires : tie.Need-read-requires
 read-requires c κs =
     let s = c.before.before.before.before.before.before.before.before.before.before.args in
     let w : Whole = whole s.s (lent s.mem.now s.dev.now) s.journal.now in
-    let v : validWhole w ≡ true =
+    let v : valid_whole w ≡ true =
     sym c.before.before.before.before.before.valid.ensures ∙ not-false _ c.before.before.before.before.if1.false in
     let h : s.s.next < room s.journal.now =
     held_next s.s s.dev.now s.journal.now v c.before.before.if2.false in
@@ -89,7 +89,7 @@ returns-3 c =
     let read = c.before.before.before.before.before.before.before.before in
     let s = read.before.before.before.before.before.before.before.before.before.before.before.args in
     let w : Whole = whole s.s (lent s.mem.now s.dev.now) s.journal.now in
-    let v : validWhole w ≡ true =
+    let v : valid_whole w ≡ true =
     sym read.before.before.before.before.before.before.valid.ensures ∙ not-false _ read.before.before.before.before.before.if1.false in
     let r : read.read.result ≡ newest w =
     read.read.ensures ∙ rw (read.before.slot-before.ensures, read.before.before.room.ensures) in
@@ -121,7 +121,7 @@ returns-4 c =
     let read = used-by.before in
     let s = read.before.before.before.before.before.before.before.before.before.before.before.args in
     let w : Whole = whole s.s (lent s.mem.now s.dev.now) s.journal.now in
-    let v : validWhole w ≡ true =
+    let v : valid_whole w ≡ true =
     sym read.before.before.before.before.before.before.valid.ensures ∙ not-false _ read.before.before.before.before.before.if1.false in
     let r : read.read.result ≡ newest w =
     read.read.ensures ∙ rw (read.before.slot-before.ensures, read.before.before.room.ensures) in

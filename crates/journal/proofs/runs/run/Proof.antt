@@ -10,17 +10,17 @@ use Rattle.memory.specs.Bytes.{lent}
 use Rattle.journal.specs.declared.State.{State}
 use Rattle.journal.specs.States.{Whole, whole, valid}
 use Rattle.journal.specs.Step.{result, step}
-use Rattle.journal.specs.Turns.{Going, state_of, goingFrom}
-use Rattle.journal.specs.Run.{goesOn, repeated, run}
+use Rattle.journal.specs.Turns.{Going, state_of, going_from}
+use Rattle.journal.specs.Run.{goes_on, repeated, run}
 use Rattle.records.proofs.Laws.{room-length}
 use Rattle.journal.proofs.TurnLaws.{stored}
-use Rattle.journal.proofs.RunTurns.{counted, begun, ended, goes_on, ends}
+use Rattle.journal.proofs.RunTurns.{counted, begun, ended, goes-on, ends}
 use borrow.Author.Rules.{rules}
 use Rattle.journal.proofs.runs.run.Statement.{statement}
 use Rattle.journal.proofs.runs.run.Tie as tie
 
 abbrev invariant-loop : tie.invariant-loop
-invariant-loop mem₀ dev₀ journal₀ n mode map d g₀ ring₀ count₀ mem dev journal g ring count = (count ≤ n) × (length mem ≡ length mem₀) × (length dev ≡ length dev₀) × (length journal ≡ length journal₀) × (valid (state_of (goingFrom g ring) mode map) dev journal ≡ true) × (counted count (repeated (n - count) (whole (state_of (goingFrom g ring) mode map) (lent mem dev) journal)) ≡ repeated n (whole (state_of (goingFrom g₀ ring₀) mode map) (lent mem₀ dev₀) journal₀))
+invariant-loop mem₀ dev₀ journal₀ n mode map d g₀ ring₀ count₀ mem dev journal g ring count = (count ≤ n) × (length mem ≡ length mem₀) × (length dev ≡ length dev₀) × (length journal ≡ length journal₀) × (valid (state_of (going_from g ring) mode map) dev journal ≡ true) × (counted count (repeated (n - count) (whole (state_of (going_from g ring) mode map) (lent mem dev) journal)) ≡ repeated n (whole (state_of (going_from g₀ ring₀) mode map) (lent mem₀ dev₀) journal₀))
 
 abbrev decreases-loop : tie.decreases-loop
 decreases-loop mem₀ dev₀ journal₀ n mode map d g₀ ring₀ count₀ mem dev journal g ring count = n - count
@@ -101,17 +101,17 @@ returns-2 c =
     let map = x.s.machine.map in
     let v = whole x.s (lent x.mem.now x.dev.now) x.journal.now in
     let h = l.loop in
-    let w = whole (state_of (goingFrom h.g h.ring) mode map) (lent h.mem h.dev) h.journal in
+    let w = whole (state_of (going_from h.g h.ring) mode map) (lent h.mem h.dev) h.journal in
     let q = t.turn in
     let a = answered q.result.answer in
     let of : Going → Whole = λ y. whole (state_of y mode map) (lent q.new.1.1.1.1.0 q.new.1.1.1.1.1.0) q.new.1.1.1.1.1.1.0 in
     let put = c.before.before.before.before.before.store in
-    let u = of (goingFrom put.new.0 q.result.ring) in
+    let u = of (going_from put.new.0 q.result.ring) in
     let z = stored h.g put.new.0 q.result put.ensures in
     let e : result a u ≡ step w = ap (λ (y : Going). result a (of y)) z ∙ q.ensures.0 in
     let more = t.before.before.before.before.before.loop-test.true in
     let f : valid x.s x.dev.now x.journal.now ≡ true = sym l.before.before.before.before.before.before.before.before.before.valid.ensures ∙ not-false _ l.before.before.before.before.before.before.before.before.if1.false in
-    let g : goesOn a ≡ false = sym c.before.before.before.goes_on.ensures ∙ not-true _ c.before.before.if2.true in
+    let g : goes_on a ≡ false = sym c.before.before.before.goes_on.ensures ∙ not-true _ c.before.before.if2.true in
     rw (f, c.state-of.ensures, c.before.counts.ensures.0) (ends x.n h.count w v h.invariant.5 more a u e g)
 
 add-count : tie.Need-overflow-add-count invariant-loop decreases-loop
@@ -133,18 +133,18 @@ loop-again c =
     let map = x.s.machine.map in
     let v = whole x.s (lent x.mem.now x.dev.now) x.journal.now in
     let h = l.loop in
-    let w = whole (state_of (goingFrom h.g h.ring) mode map) (lent h.mem h.dev) h.journal in
+    let w = whole (state_of (going_from h.g h.ring) mode map) (lent h.mem h.dev) h.journal in
     let q = t.turn in
     let a = answered q.result.answer in
     let of : Going → Whole = λ y. whole (state_of y mode map) (lent q.new.1.1.1.1.0 q.new.1.1.1.1.1.0) q.new.1.1.1.1.1.1.0 in
     let put = c.before.before.before.store in
-    let u = of (goingFrom put.new.0 q.result.ring) in
+    let u = of (going_from put.new.0 q.result.ring) in
     let z = stored h.g put.new.0 q.result put.ensures in
     let e : result a u ≡ step w = ap (λ (y : Going). result a (of y)) z ∙ q.ensures.0 in
     let more = t.before.before.before.before.before.loop-test.true in
-    let g : goesOn a ≡ true = sym c.before.goes_on.ensures ∙ not-false _ c.if2.false in
+    let g : goes_on a ≡ true = sym c.before.goes_on.ensures ∙ not-false _ c.if2.false in
     let k = ap (λ (y : Going). valid (state_of y mode map) q.new.1.1.1.1.1.0 q.new.1.1.1.1.1.1.0) z ∙ q.ensures.1 in
-    (omega (arith, more), q.auto.1.1.1.1.0 ∙ h.invariant.1, q.auto.1.1.1.1.1.0 ∙ h.invariant.2, q.auto.1.1.1.1.1.1.0 ∙ h.invariant.3, k, goes_on x.n h.count w v h.invariant.5 more a u e g)
+    (omega (arith, more), q.auto.1.1.1.1.0 ∙ h.invariant.1, q.auto.1.1.1.1.1.0 ∙ h.invariant.2, q.auto.1.1.1.1.1.1.0 ∙ h.invariant.3, k, goes-on x.n h.count w v h.invariant.5 more a u e g)
 
 state-of-requires-2 : tie.Need-state-of-requires-2 invariant-loop decreases-loop
 state-of-requires-2 c κs = search rules
@@ -167,7 +167,7 @@ returns-3 c =
     let map = x.s.machine.map in
     let v = whole x.s (lent x.mem.now x.dev.now) x.journal.now in
     let h = l.loop in
-    let w = whole (state_of (goingFrom h.g h.ring) mode map) (lent h.mem h.dev) h.journal in
+    let w = whole (state_of (going_from h.g h.ring) mode map) (lent h.mem h.dev) h.journal in
     let f : valid x.s x.dev.now x.journal.now ≡ true = sym l.before.before.before.before.before.before.before.before.before.valid.ensures ∙ not-false _ l.before.before.before.before.before.before.before.before.if1.false in
     rw (f, c.state-of2.ensures) (ended x.n h.count w v h.invariant.5 (omega (arith, c.before.loop-test.false)))
 

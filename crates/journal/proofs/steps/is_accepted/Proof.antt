@@ -1,5 +1,5 @@
 -- One case for each answer. Assumes nothing.
-use Rattle.journal.specs.Step.{isAccepted}
+use Rattle.journal.specs.Step.{is_accepted}
 use borrow.Author.Rules.{rules}
 use Rattle.journal.proofs.steps.is_accepted.Statement.{statement}
 use Rattle.journal.proofs.steps.is_accepted.Tie as tie
@@ -17,19 +17,19 @@ enum-told-4 : tie.Need-enum-told-4
 enum-told-4 c = search rules
 
 returns : tie.Need-returns
-unfolding isAccepted
+unfolding is_accepted
 returns c = rw c.enum_told.given.1
 
 returns-2 : tie.Need-returns-2
-unfolding isAccepted
+unfolding is_accepted
 returns-2 c = rw c.enum-told2.given.1
 
 returns-3 : tie.Need-returns-3
-unfolding isAccepted
+unfolding is_accepted
 returns-3 c = rw c.enum-told3.given.1
 
 returns-4 : tie.Need-returns-4
-unfolding isAccepted
+unfolding is_accepted
 returns-4 c = rw c.enum-told4.given.1
 
 pub is-accepted-spec : {M : Type 1} → statement M

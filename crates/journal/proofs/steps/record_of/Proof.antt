@@ -1,5 +1,5 @@
 -- One case for each number of stored bytes. Assumes nothing.
-use Rattle.journal.specs.Step.{recordOf}
+use Rattle.journal.specs.Step.{record_of}
 use borrow.Author.Rules.{rules}
 use Rattle.journal.proofs.steps.record_of.Statement.{statement}
 use Rattle.journal.proofs.steps.record_of.Tie as tie
@@ -23,15 +23,15 @@ replaced-requires-3 : tie.Need-replaced-requires-3
 replaced-requires-3 c κs = search rules
 
 returns : tie.Need-returns
-unfolding recordOf
+unfolding record_of
 returns c = rw c.enum_told.given.1
 
 returns-2 : tie.Need-returns-2
-unfolding recordOf
+unfolding record_of
 returns-2 c = rw (c.before.before.c.given.1, c.replaced.ensures)
 
 returns-3 : tie.Need-returns-3
-unfolding recordOf
+unfolding record_of
 returns-3 c = rw (c.before.before.before.c2.given.1, c.before.replaced2.ensures, c.replaced3.ensures)
 
 pub record-of-spec : {M : Type 1} → statement M

@@ -5,7 +5,7 @@ use native.Mathlib.Omega.{arith}
 use lib.ListN.{length, get_or, get_or-eq_default}
 use mathlib.Core.List.{List}
 use Rattle.labels.specs.declared.Open.{Open}
-use Rattle.labels.specs.Opens.{openTo, no_open, opens_of}
+use Rattle.labels.specs.Opens.{open_to, no_open, opens_of}
 use Rattle.labels.proofs.Laws.{opens-in-places, opens-in-lengths, opens-in-words, opens-in-references, opens_at}
 use borrow.Author.Rules.{rules}
 use Rattle.labels.proofs.opens.open_at.Statement.{statement}
@@ -65,7 +65,7 @@ returns : tie.Need-returns
 returns c =
     let t = c.before.before.before.before.before in
     let s = (entry t).args in
-    ap (openTo (get_or s.places.now s.i 0) (get_or s.lengths.now s.i 0) (get_or s.words.now s.i 0)) c.before.before.before.reference.ensures ∙
+    ap (open_to (get_or s.places.now s.i 0) (get_or s.lengths.now s.i 0) (get_or s.words.now s.i 0)) c.before.before.before.reference.ensures ∙
     sym (opens_at s.places.now s.lengths.now s.words.now s.references.now s.i no_open (inside t))
 
 returns-2 : tie.Need-returns-2

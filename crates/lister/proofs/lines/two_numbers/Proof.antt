@@ -1,6 +1,6 @@
 -- The pieces are the definition's, in its order. Assumes nothing.
 use mathlib.Core.Path.{◌∙◌}
-use Rattle.lister.specs.Listing.{twoNumbers}
+use Rattle.lister.specs.Listing.{two_numbers}
 use Rattle.pen.proofs.PenLaws.{joined}
 use borrow.Author.Rules.{rules}
 use Rattle.lister.proofs.lines.two_numbers.Statement.{statement}
@@ -25,7 +25,7 @@ same_length : tie.Need-same-length
 same_length c = search rules
 
 returns : tie.Need-returns
-unfolding twoNumbers
+unfolding two_numbers
 returns c = c.before.before.put.ensures ∙ rw (c.before.before.before.before.before.before.decimal2.ensures, c.before.before.before.before.before.before.before.before.before.before.put-all2.ensures, c.before.before.before.before.before.before.before.before.before.before.before.before.before.before.decimal.ensures, c.before.before.before.before.before.before.before.before.before.before.before.before.before.before.before.before.before.before.put_all_lem.ensures) (simp joined)
 
 pub two-numbers-spec : {M : Type 1} → statement M

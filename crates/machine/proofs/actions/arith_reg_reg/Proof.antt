@@ -1,6 +1,6 @@
 -- Both registers are read, the result is settled. Assumes nothing.
 use mathlib.Core.Path.{◌∙◌}
-use Rattle.machine.specs.Acts.{arithRegReg}
+use Rattle.machine.specs.Acts.{arith_reg_reg}
 use borrow.Author.Rules.{rules}
 use Rattle.machine.proofs.actions.arith_reg_reg.Statement.{statement}
 use Rattle.machine.proofs.actions.arith_reg_reg.Tie as tie
@@ -18,7 +18,7 @@ settle-requires : tie.Need-settle-requires
 settle-requires c κs = search rules
 
 returns : tie.Need-returns
-unfolding arithRegReg
+unfolding arith_reg_reg
 returns c = c.settle.ensures ∙ rw (c.before.arithmetic.ensures, c.before.before.get2.ensures, c.before.before.before.get.ensures)
 
 pub arith-reg-reg-spec : {M : Type 1} → statement M

@@ -1,6 +1,6 @@
 -- The register is shifted, and put back. Assumes nothing.
 use mathlib.Core.Path.{◌∙◌}
-use Rattle.machine.specs.Acts.{movShift}
+use Rattle.machine.specs.Acts.{mov_shift}
 use borrow.Author.Rules.{rules}
 use Rattle.machine.proofs.actions.mov_shift.Statement.{statement}
 use Rattle.machine.proofs.actions.mov_shift.Tie as tie
@@ -15,7 +15,7 @@ go-on-requires : tie.Need-go-on-requires
 go-on-requires c κs = search rules
 
 returns : tie.Need-returns
-unfolding movShift
+unfolding mov_shift
 returns c = c.go_on.ensures ∙ rw (c.before.moved.ensures, c.before.before.get.ensures)
 
 pub mov-shift-spec : {M : Type 1} → statement M

@@ -1,6 +1,6 @@
 -- M is the raised PC, where there is one. Assumes nothing.
 use mathlib.Core.Path.{◌≡◌, sym, ap, ◌∙◌}
-use Rattle.base.specs.Addresses.{raisedPc}
+use Rattle.base.specs.Addresses.{raised_pc}
 use Rattle.base.specs.declared.addresses.Reached.TheVariants.{At, Past}
 use Rattle.instruction.specs.declared.Register.TheVariants.{PC}
 use Rattle.machine.specs.Registers.{get}
@@ -33,13 +33,13 @@ refused-requires c κs = search rules
 returns : tie.Need-returns
 unfolding call
 returns c =
-    let e : raisedPc (get (regs c.before.before.before.before.before.before.args.s.now) PC) ≡ At c.before.before.n.given.0.0 = ap raisedPc (sym c.before.before.before.before.before.get.ensures) ∙ sym c.before.before.before.before.raised-pc.ensures ∙ c.before.before.n.given.1 in
+    let e : raised_pc (get (regs c.before.before.before.before.before.before.args.s.now) PC) ≡ At c.before.before.n.given.0.0 = ap raised_pc (sym c.before.before.before.before.before.get.ensures) ∙ sym c.before.before.before.before.raised-pc.ensures ∙ c.before.before.n.given.1 in
     c.land.ensures ∙ rw (put-apart _ _ _, e)
 
 returns-2 : tie.Need-returns-2
 unfolding call finished
 returns-2 c =
-    let e : raisedPc (get (regs c.before.before.before.before.before.args.s.now) PC) ≡ Past = ap raisedPc (sym c.before.before.before.before.get.ensures) ∙ sym c.before.before.before.raised-pc.ensures ∙ c.before.enum_told.given.1 in
+    let e : raised_pc (get (regs c.before.before.before.before.before.args.s.now) PC) ≡ Past = ap raised_pc (sym c.before.before.before.before.get.ensures) ∙ sym c.before.before.before.raised-pc.ensures ∙ c.before.enum_told.given.1 in
     c.refused.ensures ∙ rw (e)
 
 pub call-spec : {M : Type 1} → statement M

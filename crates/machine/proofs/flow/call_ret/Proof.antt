@@ -1,6 +1,6 @@
 -- One answer for each case. Assumes nothing.
 use mathlib.Core.Path.{◌∙◌}
-use Rattle.machine.specs.Acts.{callRet}
+use Rattle.machine.specs.Acts.{call_ret}
 use Rattle.instruction.specs.declared.Register.TheVariants.{PC}
 use Rattle.machine.proofs.RegisterLaws.{put-put}
 use borrow.Author.Rules.{rules}
@@ -17,11 +17,11 @@ call-requires : tie.Need-call-requires
 call-requires c κs = search rules
 
 returns : tie.Need-returns
-unfolding callRet
+unfolding call_ret
 returns c = c.land.ensures ∙ rw (c.before.get.ensures, c.before.before.if1.true, put-put _ PC _ _)
 
 returns-2 : tie.Need-returns-2
-unfolding callRet
+unfolding call_ret
 returns-2 c = c.call.ensures ∙ rw c.before.if1.false
 
 pub call-ret-spec : {M : Type 1} → statement M

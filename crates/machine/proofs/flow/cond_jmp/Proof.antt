@@ -2,7 +2,7 @@
 use mathlib.Core.Path.{◌≡◌, sym, ◌∙◌}
 use mathlib.Core.Bool.{true, false}
 use Rattle.machine.specs.Registers.{flag}
-use Rattle.machine.specs.Acts.{marked, jmp, condJmp}
+use Rattle.machine.specs.Acts.{marked, jmp, cond_jmp}
 use Rattle.machine.specs.Moves.{regs}
 use borrow.Author.Rules.{rules}
 use Rattle.machine.proofs.flow.cond_jmp.Statement.{statement}
@@ -24,13 +24,13 @@ stay-requires : tie.Need-stay-requires
 stay-requires c κs = search rules
 
 returns : tie.Need-returns
-unfolding condJmp jmp marked
+unfolding cond_jmp jmp marked
 returns c =
     let e : flag (regs c.before.before.before.before.before.before.args.s.now) 3 ≡ true = sym c.before.before.before.before.before.flag.ensures ∙ c.before.before.before.before.if1.true in
     c.land.ensures ∙ rw (c.before.operand-after.ensures, c.before.before.before.mark.ensures, e)
 
 returns-2 : tie.Need-returns-2
-unfolding condJmp
+unfolding cond_jmp
 returns-2 c =
     let e : flag (regs c.before.before.before.args.s.now) 3 ≡ false = sym c.before.before.flag.ensures ∙ c.before.if1.false in
     c.stay.ensures ∙ rw (e)

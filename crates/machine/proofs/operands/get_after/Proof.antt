@@ -1,7 +1,7 @@
 -- The register itself, or another. Assumes nothing.
 use mathlib.Core.Path.{◌≡◌, sym, ◌∙◌}
 use lib.ListN.{get_or, length}
-use Rattle.instruction.specs.Codes.{registerCode}
+use Rattle.instruction.specs.Codes.{register_code}
 use Rattle.machine.specs.Moves.{regs}
 use Rattle.machine.specs.Registers.{get}
 use Rattle.machine.proofs.RegisterLaws.{get-same, get-apart}
@@ -30,7 +30,7 @@ array-read-result c = search rules
 returns : tie.Need-returns
 returns c =
     let x = c.before.before.before.args in
-    let e : registerCode x.d ≡ registerCode x.r = sym c.before.register-code2.ensures.0 ∙ c.if1.true ∙ c.before.before.register-code.ensures.0 in
+    let e : register_code x.d ≡ register_code x.r = sym c.before.register-code2.ensures.0 ∙ c.if1.true ∙ c.before.before.register-code.ensures.0 in
     let l : length x.t1 ≡ 8 = search rules in
     sym (get-same (regs x.t1) x.d x.r x.v e l)
 

@@ -1,6 +1,6 @@
 -- PC is raised or it can't be, as the definition asks. Assumes nothing.
 use mathlib.Core.Path.{◌≡◌, sym, ap, ◌∙◌}
-use Rattle.base.specs.Addresses.{raisedPc}
+use Rattle.base.specs.Addresses.{raised_pc}
 use Rattle.base.specs.declared.addresses.Reached.TheVariants.{At, Past}
 use Rattle.instruction.specs.declared.Register.TheVariants.{PC}
 use Rattle.machine.specs.Registers.{get, put}
@@ -32,14 +32,14 @@ returns : tie.Need-returns
 unfolding raised finished
 returns c =
     let x = c.before.before.before.before.before.before.before.args in
-    let e : raisedPc (get (put (regs x.s.now) x.d x.v) PC) ≡ At c.before.before.pc.given.0.0 = ap raisedPc (sym c.before.before.before.before.before.get_after.ensures) ∙ sym c.before.before.before.before.raised-pc.ensures ∙ c.before.before.pc.given.1 in
+    let e : raised_pc (get (put (regs x.s.now) x.d x.v) PC) ≡ At c.before.before.pc.given.0.0 = ap raised_pc (sym c.before.before.before.before.before.get_after.ensures) ∙ sym c.before.before.before.before.raised-pc.ensures ∙ c.before.before.pc.given.1 in
     rw (c.answer.ensures, e)
 
 returns-2 : tie.Need-returns-2
 unfolding raised finished
 returns-2 c =
     let x = c.before.before.before.before.before.before.args in
-    let e : raisedPc (get (put (regs x.s.now) x.d x.v) PC) ≡ Past = ap raisedPc (sym c.before.before.before.before.get_after.ensures) ∙ sym c.before.before.before.raised-pc.ensures ∙ c.before.enum_told.given.1 in
+    let e : raised_pc (get (put (regs x.s.now) x.d x.v) PC) ≡ Past = ap raised_pc (sym c.before.before.before.before.get_after.ensures) ∙ sym c.before.before.before.raised-pc.ensures ∙ c.before.enum_told.given.1 in
     c.refused.ensures ∙ rw (e)
 
 pub pause-or-next-spec : {M : Type 1} → statement M

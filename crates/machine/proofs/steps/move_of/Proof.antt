@@ -5,7 +5,7 @@ use mathlib.Core.Bool.{true, false}
 use Rattle.memory.specs.Bytes.{lent}
 use Rattle.base.specs.Numbers.{number_of}
 use Rattle.base.specs.Told.{is, no}
-use Rattle.memory.specs.Words.{aWord, no_word, toldWord, readWord}
+use Rattle.memory.specs.Words.{a_word, no_word, told_word, read_word}
 use Rattle.instruction.specs.declared.Register.TheVariants.{PC}
 use Rattle.machine.specs.Registers.{get, flag}
 use Rattle.machine.specs.Plan.{fetched, plan}
@@ -57,7 +57,7 @@ returns-2 c =
     let b = lent x.mem.now x.dev.now in
     let s = regs x.s.now in
     let f : flag s 0 ≡ false = sym c.before.before.before.before.before.before.before.flag.ensures ∙ c.before.before.before.before.before.before.if1.false in
-    let e : readWord x.map b (get s PC) ≡ is (aWord c.before.before.w.given.0.0) = ap (λ (a : ℕ). readWord x.map b a) (sym c.before.before.before.before.before.get.ensures) ∙ sym c.before.before.before.before.fetch-word.ensures ∙ ap toldWord c.before.before.w.given.1 in
+    let e : read_word x.map b (get s PC) ≡ is (a_word c.before.before.w.given.0.0) = ap (λ (a : ℕ). read_word x.map b a) (sym c.before.before.before.before.before.get.ensures) ∙ sym c.before.before.before.before.fetch-word.ensures ∙ ap told_word c.before.before.w.given.1 in
     c.act-on-word.ensures ∙ rw (f, e)
 
 returns-3 : tie.Need-returns-3
@@ -67,7 +67,7 @@ returns-3 c =
     let b = lent x.mem.now x.dev.now in
     let s = regs x.s.now in
     let f : flag s 0 ≡ false = sym c.before.before.before.before.before.before.flag.ensures ∙ c.before.before.before.before.before.if1.false in
-    let e : readWord x.map b (get s PC) ≡ is no_word = ap (λ (a : ℕ). readWord x.map b a) (sym c.before.before.before.before.get.ensures) ∙ sym c.before.before.before.fetch-word.ensures ∙ ap toldWord c.before.enum_told.given.1 in
+    let e : read_word x.map b (get s PC) ≡ is no_word = ap (λ (a : ℕ). read_word x.map b a) (sym c.before.before.before.before.get.ensures) ∙ sym c.before.before.before.fetch-word.ensures ∙ ap told_word c.before.enum_told.given.1 in
     c.refused.ensures ∙ rw (f, e)
 
 returns-4 : tie.Need-returns-4
@@ -77,7 +77,7 @@ returns-4 c =
     let b = lent x.mem.now x.dev.now in
     let s = regs x.s.now in
     let f : flag s 0 ≡ false = sym c.before.before.before.before.before.before.before.flag.ensures ∙ c.before.before.before.before.before.before.if1.false in
-    let e : readWord x.map b (get s PC) ≡ no (number_of c.before.before.r.given.0.0) = ap (λ (a : ℕ). readWord x.map b a) (sym c.before.before.before.before.before.get.ensures) ∙ sym c.before.before.before.before.fetch-word.ensures ∙ ap toldWord c.before.before.r.given.1 in
+    let e : read_word x.map b (get s PC) ≡ no (number_of c.before.before.r.given.0.0) = ap (λ (a : ℕ). read_word x.map b a) (sym c.before.before.before.before.before.get.ensures) ∙ sym c.before.before.before.before.fetch-word.ensures ∙ ap told_word c.before.before.r.given.1 in
     c.refused2.ensures ∙ rw (f, e)
 
 pub move-of-spec : {M : Type 1} → statement M

@@ -1,7 +1,7 @@
 -- The source is read first, and decides. Assumes nothing.
 use mathlib.Core.Path.{◌≡◌, sym, ap, ◌∙◌}
 use Prim.Native.Nat.{ℕ}
-use Rattle.memory.specs.Bytes.{lent, readByte}
+use Rattle.memory.specs.Bytes.{lent, read_byte}
 use Rattle.memory.specs.declared.Read.TheVariants.{Byte, Unmapped}
 use Rattle.machine.specs.Registers.{get}
 use Rattle.machine.specs.Acts.{copied, cpy, fault}
@@ -42,7 +42,7 @@ unfolding cpy copied
 returns c =
     let x = c.before.before.before.before.before.before.before.before.before.before.args in
     let b = lent x.mem.now x.dev.now in
-    let e : readByte x.m b (get (regs x.s.now) x.src) ≡ Byte c.before.before.before.before.v.given.0.0 c.before.before.before.before.v.given.0.1.0 = ap (λ (a : ℕ). readByte x.m b a) (sym c.before.before.before.before.before.before.before.get.ensures) ∙ sym c.before.before.before.before.before.before.read_byte.ensures ∙ c.before.before.before.before.v.given.1 in
+    let e : read_byte x.m b (get (regs x.s.now) x.src) ≡ Byte c.before.before.before.before.v.given.0.0 c.before.before.before.before.v.given.0.1.0 = ap (λ (a : ℕ). read_byte x.m b a) (sym c.before.before.before.before.before.before.before.get.ensures) ∙ sym c.before.before.before.before.before.before.read_byte.ensures ∙ c.before.before.before.before.v.given.1 in
     c.end-store.ensures ∙ rw (c.before.decide-byte.ensures, c.before.before.get2.ensures, e)
 
 returns-2 : tie.Need-returns-2
@@ -50,7 +50,7 @@ unfolding cpy copied fault
 returns-2 c =
     let x = c.before.before.before.before.before.before.before.before.args in
     let b = lent x.mem.now x.dev.now in
-    let e : readByte x.m b (get (regs x.s.now) x.src) ≡ Unmapped = ap (λ (a : ℕ). readByte x.m b a) (sym c.before.before.before.before.before.get.ensures) ∙ sym c.before.before.before.before.read_byte.ensures ∙ c.before.before.enum_told.given.1 in
+    let e : read_byte x.m b (get (regs x.s.now) x.src) ≡ Unmapped = ap (λ (a : ℕ). read_byte x.m b a) (sym c.before.before.before.before.before.get.ensures) ∙ sym c.before.before.before.before.read_byte.ensures ∙ c.before.before.enum_told.given.1 in
     c.go_on.ensures ∙ rw (c.before.fail.ensures, e)
 
 pub cpy-spec : {M : Type 1} → statement M

@@ -1,7 +1,7 @@
 -- There is an address, or the step is refused. Assumes nothing.
 use mathlib.Core.Path.{◌≡◌, sym, ap, ◌∙◌}
 use Prim.Native.Nat.{ℕ}
-use Rattle.base.specs.Addresses.{basePlusShift}
+use Rattle.base.specs.Addresses.{base_plus_shift}
 use Rattle.base.specs.declared.addresses.Reached.TheVariants.{At, Past}
 use Rattle.machine.specs.Registers.{get}
 use Rattle.machine.specs.Acts.{addressed}
@@ -33,14 +33,14 @@ returns : tie.Need-returns
 unfolding addressed
 returns c =
     let x = c.before.before.before.before.before.before.before.before.args in
-    let e : basePlusShift (get (regs x.s.now) x.addr) x.shift ≡ At c.before.before.a.given.0.0 = ap (λ (n : ℕ). basePlusShift n x.shift) (sym c.before.before.before.before.before.get.ensures) ∙ sym c.before.before.before.before.base-plus-shift.ensures ∙ c.before.before.a.given.1 in
+    let e : base_plus_shift (get (regs x.s.now) x.addr) x.shift ≡ At c.before.before.a.given.0.0 = ap (λ (n : ℕ). base_plus_shift n x.shift) (sym c.before.before.before.before.before.get.ensures) ∙ sym c.before.before.before.before.base-plus-shift.ensures ∙ c.before.before.a.given.1 in
     c.word_at.ensures ∙ rw (e)
 
 returns-2 : tie.Need-returns-2
 unfolding addressed finished
 returns-2 c =
     let x = c.before.before.before.before.before.before.before.args in
-    let e : basePlusShift (get (regs x.s.now) x.addr) x.shift ≡ Past = ap (λ (n : ℕ). basePlusShift n x.shift) (sym c.before.before.before.before.get.ensures) ∙ sym c.before.before.before.base-plus-shift.ensures ∙ c.before.enum_told.given.1 in
+    let e : base_plus_shift (get (regs x.s.now) x.addr) x.shift ≡ Past = ap (λ (n : ℕ). base_plus_shift n x.shift) (sym c.before.before.before.before.get.ensures) ∙ sym c.before.before.before.base-plus-shift.ensures ∙ c.before.enum_told.given.1 in
     c.refused.ensures ∙ rw (e)
 
 pub ldr-str-spec : {M : Type 1} → statement M

@@ -1,6 +1,6 @@
 -- One answer for each case of the read. Assumes nothing.
 use mathlib.Core.Path.{◌∙◌}
-use Rattle.machine.specs.Acts.{byteLoaded}
+use Rattle.machine.specs.Acts.{byte_loaded}
 use borrow.Author.Rules.{rules}
 use Rattle.machine.proofs.transfers.load_byte.Statement.{statement}
 use Rattle.machine.proofs.transfers.load_byte.Tie as tie
@@ -21,11 +21,11 @@ stay-requires : tie.Need-stay-requires
 stay-requires c κs = search rules
 
 returns : tie.Need-returns
-unfolding byteLoaded
+unfolding byte_loaded
 returns c = c.go_on.ensures ∙ rw c.before.before.x.given.1
 
 returns-2 : tie.Need-returns-2
-unfolding byteLoaded
+unfolding byte_loaded
 returns-2 c = c.stay.ensures ∙ rw c.before.enum_told.given.1
 
 pub load-byte-spec : {M : Type 1} → statement M

@@ -1,6 +1,6 @@
 -- One answer for each case of the read. Assumes nothing.
 use mathlib.Core.Path.{◌∙◌}
-use Rattle.machine.specs.Acts.{wordLoaded}
+use Rattle.machine.specs.Acts.{word_loaded}
 use Rattle.machine.specs.Plan.{finished}
 use borrow.Author.Rules.{rules}
 use Rattle.machine.proofs.transfers.load_word.Statement.{statement}
@@ -25,15 +25,15 @@ refused-requires : tie.Need-refused-requires
 refused-requires c κs = search rules
 
 returns : tie.Need-returns
-unfolding wordLoaded
+unfolding word_loaded
 returns c = c.go_on.ensures ∙ rw c.before.before.x.given.1
 
 returns-2 : tie.Need-returns-2
-unfolding wordLoaded
+unfolding word_loaded
 returns-2 c = c.stay.ensures ∙ rw c.before.enum_told.given.1
 
 returns-3 : tie.Need-returns-3
-unfolding wordLoaded finished
+unfolding word_loaded finished
 returns-3 c = c.refused.ensures ∙ rw c.before.before.x2.given.1
 
 pub load-word-spec : {M : Type 1} → statement M

@@ -3,7 +3,7 @@ use mathlib.Core.Path.{◌≡◌}
 use Prim.Native.Nat.{◌+◌, ◌*◌, ◌-◌, ◌≤◌}
 use native.Mathlib.Omega.{arith}
 use lib.ListN.{length, drop}
-use Rattle.map.specs.Devices.{usedDevices, total}
+use Rattle.map.specs.Devices.{used_devices, total}
 use Rattle.map.specs.Entries.{device}
 use Rattle.map.proofs.Scans.{mapped}
 use Rattle.map.proofs.DeviceScans.{total-next, total-end}
@@ -12,7 +12,7 @@ use Rattle.map.proofs.devices.device_bytes.Statement.{statement}
 use Rattle.map.proofs.devices.device_bytes.Tie as tie
 
 abbrev invariant-loop : tie.invariant-loop
-invariant-loop m n i₀ sum₀ i sum = (i ≤ 8) × (sum ≤ 65535 * i) × (total (usedDevices m) ≡ sum + total (drop i (usedDevices m)))
+invariant-loop m n i₀ sum₀ i sum = (i ≤ 8) × (sum ≤ 65535 * i) × (total (used_devices m) ≡ sum + total (drop i (used_devices m)))
 
 abbrev decreases-loop : tie.decreases-loop
 decreases-loop m n i₀ sum₀ i sum = n - i
@@ -46,7 +46,7 @@ loop-less : tie.Need-loop-smaller invariant-loop decreases-loop
 loop-less c = search rules
 
 loop-again : tie.Need-loop-preserved invariant-loop decreases-loop
-unfolding usedDevices
+unfolding used_devices
 loop-again c =
     let s = c.before.before.before.before.before in
     let l = s.args.t1.device in
@@ -55,7 +55,7 @@ loop-again c =
     (search rules, search rules, omega (arith, e))
 
 returns : tie.Need-returns invariant-loop decreases-loop
-unfolding usedDevices
+unfolding used_devices
 returns c =
     let s = c.before.before.before in
     let l = s.args.t1.device in

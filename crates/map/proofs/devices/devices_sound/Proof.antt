@@ -5,7 +5,7 @@ use native.Mathlib.Omega.{arith}
 use borrow.Author.Tests.{not-true, not-false}
 use lib.ListN.{length, drop}
 use Rattle.map.specs.Tables.{sound}
-use Rattle.map.specs.Devices.{deviceInRange, devicesOverlap, usedDevices}
+use Rattle.map.specs.Devices.{device_in_range, devices_overlap, used_devices}
 use Rattle.map.specs.Entries.{device}
 use Rattle.map.proofs.Scans.{mapped, sound-wrong, sound-met, sound-next, sound-end}
 use borrow.Author.Rules.{rules}
@@ -13,7 +13,7 @@ use Rattle.map.proofs.devices.devices_sound.Statement.{statement}
 use Rattle.map.proofs.devices.devices_sound.Tie as tie
 
 abbrev invariant-loop : tie.invariant-loop
-invariant-loop m n i₀ i = sound deviceInRange devicesOverlap (usedDevices m) ≡ sound deviceInRange devicesOverlap (drop i (usedDevices m))
+invariant-loop m n i₀ i = sound device_in_range devices_overlap (used_devices m) ≡ sound device_in_range devices_overlap (drop i (used_devices m))
 
 abbrev decreases-loop : tie.decreases-loop
 decreases-loop m n i₀ i = n - i
@@ -38,14 +38,14 @@ device-in-range-requires : tie.Need-device-in-range-requires invariant-loop decr
 device-in-range-requires c κs = search rules
 
 returns : tie.Need-returns invariant-loop decreases-loop
-unfolding usedDevices
+unfolding used_devices
 returns c =
     let h = c.before.before.before.before in
     let s = c.before.before.before.before.before.before in
     let l = s.args.t1.device in
     let k = s.args.t1.devices in
     sym
-    (h.loop.invariant ∙ sound-wrong l k h.loop.i (long s) deviceInRange devicesOverlap (device 0 0) (omega arith) (sym c.before.device-in-range.ensures ∙ not-true _ c.if1.true))
+    (h.loop.invariant ∙ sound-wrong l k h.loop.i (long s) device_in_range devices_overlap (device 0 0) (omega arith) (sym c.before.device-in-range.ensures ∙ not-true _ c.if1.true))
 
 add-device-meets : tie.Need-overflow-add-device-meets invariant-loop decreases-loop
 add-device-meets c = search rules
@@ -54,14 +54,14 @@ device-meets-requires : tie.Need-device-meets-requires invariant-loop decreases-
 device-meets-requires c κs = search rules
 
 returns-2 : tie.Need-returns-2 invariant-loop decreases-loop
-unfolding usedDevices
+unfolding used_devices
 returns-2 c =
     let h = c.before.before.before.before.before.before in
     let s = c.before.before.before.before.before.before.before.before in
     let l = s.args.t1.device in
     let k = s.args.t1.devices in
     sym
-    (h.loop.invariant ∙ sound-met l k h.loop.i (long s) deviceInRange devicesOverlap (device 0 0) (omega arith) (sym c.before.device-meets.ensures ∙ c.if2.true))
+    (h.loop.invariant ∙ sound-met l k h.loop.i (long s) device_in_range devices_overlap (device 0 0) (omega arith) (sym c.before.device-meets.ensures ∙ c.if2.true))
 
 add-i : tie.Need-overflow-add-i invariant-loop decreases-loop
 add-i c = search rules
@@ -70,23 +70,23 @@ loop-less : tie.Need-loop-smaller invariant-loop decreases-loop
 loop-less c = search rules
 
 loop-again : tie.Need-loop-preserved invariant-loop decreases-loop
-unfolding usedDevices
+unfolding used_devices
 loop-again c =
     let h = c.before.before.before.before.before.before in
     let s = c.before.before.before.before.before.before.before.before in
     let l = s.args.t1.device in
     let k = s.args.t1.devices in
-    h.loop.invariant ∙ sound-next l k h.loop.i (long s) deviceInRange devicesOverlap (device 0 0) (omega arith)
+    h.loop.invariant ∙ sound-next l k h.loop.i (long s) device_in_range devices_overlap (device 0 0) (omega arith)
     (sym c.before.before.before.device-in-range.ensures ∙ not-false _ c.before.before.if1.false)
     (sym c.before.device-meets.ensures ∙ c.if2.false)
 
 returns-3 : tie.Need-returns-3 invariant-loop decreases-loop
-unfolding usedDevices
+unfolding used_devices
 returns-3 c =
     let s = c.before.before.before in
     let l = s.args.t1.device in
     let k = s.args.t1.devices in
-    sym (c.before.loop.invariant ∙ sound-end l k c.before.loop.i (long s) deviceInRange devicesOverlap (omega arith))
+    sym (c.before.loop.invariant ∙ sound-end l k c.before.loop.i (long s) device_in_range devices_overlap (omega arith))
 
 pub devices-sound-spec : {M : Type 1} → statement M
 devices-sound-spec =

@@ -4,7 +4,7 @@ use Prim.Native.Nat.{◌-◌}
 use native.Mathlib.Omega.{arith}
 use lib.ListN.{length, drop}
 use Rattle.map.specs.Tables.{any}
-use Rattle.map.specs.Devices.{deviceIsSet, spareDevices}
+use Rattle.map.specs.Devices.{device_is_set, spare_devices}
 use Rattle.map.specs.Entries.{device}
 use Rattle.map.proofs.Scans.{mapped, spare-start, spare-hit, spare-miss, spare-end}
 use borrow.Author.Rules.{rules}
@@ -12,7 +12,7 @@ use Rattle.map.proofs.devices.spare_device_set.Statement.{statement}
 use Rattle.map.proofs.devices.spare_device_set.Tie as tie
 
 abbrev invariant-loop : tie.invariant-loop
-invariant-loop m i₀ i = any deviceIsSet (spareDevices m) ≡ any deviceIsSet (drop i m.device)
+invariant-loop m i₀ i = any device_is_set (spare_devices m) ≡ any device_is_set (drop i m.device)
 
 abbrev decreases-loop : tie.decreases-loop
 decreases-loop m i₀ i = 8 - i
@@ -25,7 +25,7 @@ used-requires : tie.Need-used-requires invariant-loop decreases-loop
 used-requires c κs = search rules
 
 loop-holds : tie.Need-loop-init invariant-loop decreases-loop
-unfolding spareDevices
+unfolding spare_devices
 loop-holds c =
     let s = c.before in
     rw (spare-start s.args.t1.device 0 (long s) s.args.t1.devices, c.used.ensures)
@@ -45,7 +45,7 @@ returns c =
     let s = c.before.before.before.before.before.before in
     let l = s.args.t1.device in
     sym
-    (h.loop.invariant ∙ spare-hit l h.loop.i (long s) deviceIsSet (device 0 0) (omega arith) (sym c.before.device-is-set.ensures ∙ c.if1.true))
+    (h.loop.invariant ∙ spare-hit l h.loop.i (long s) device_is_set (device 0 0) (omega arith) (sym c.before.device-is-set.ensures ∙ c.if1.true))
 
 add-i : tie.Need-overflow-add-i invariant-loop decreases-loop
 add-i c = search rules
@@ -58,13 +58,13 @@ loop-again c =
     let h = c.before.before.before.before in
     let s = c.before.before.before.before.before.before in
     let l = s.args.t1.device in
-    h.loop.invariant ∙ spare-miss l h.loop.i (long s) deviceIsSet (device 0 0) (omega arith) (sym c.before.device-is-set.ensures ∙ c.if1.false)
+    h.loop.invariant ∙ spare-miss l h.loop.i (long s) device_is_set (device 0 0) (omega arith) (sym c.before.device-is-set.ensures ∙ c.if1.false)
 
 returns-2 : tie.Need-returns-2 invariant-loop decreases-loop
 returns-2 c =
     let s = c.before.before.before in
     let l = s.args.t1.device in
-    sym (c.before.loop.invariant ∙ spare-end l c.before.loop.i (long s) deviceIsSet (omega arith))
+    sym (c.before.loop.invariant ∙ spare-end l c.before.loop.i (long s) device_is_set (omega arith))
 
 pub spare-device-set-spec : {M : Type 1} → statement M
 spare-device-set-spec =

@@ -4,7 +4,7 @@ use Prim.Native.Nat.{◌-◌}
 use native.Mathlib.Omega.{arith}
 use lib.ListN.{length, drop}
 use Rattle.map.specs.Tables.{any}
-use Rattle.map.specs.Devices.{coversEither, usedDevices}
+use Rattle.map.specs.Devices.{covers_either, used_devices}
 use Rattle.map.specs.Entries.{device}
 use Rattle.map.proofs.Scans.{mapped, any-hit, any-miss, any-end}
 use borrow.Author.Rules.{rules}
@@ -12,7 +12,7 @@ use Rattle.map.proofs.places.device_within.Statement.{statement}
 use Rattle.map.proofs.places.device_within.Tie as tie
 
 abbrev invariant-loop : tie.invariant-loop
-invariant-loop a b m n i₀ i = any (coversEither a b) (usedDevices m) ≡ any (coversEither a b) (drop i (usedDevices m))
+invariant-loop a b m n i₀ i = any (covers_either a b) (used_devices m) ≡ any (covers_either a b) (drop i (used_devices m))
 
 abbrev decreases-loop : tie.decreases-loop
 decreases-loop a b m n i₀ i = n - i
@@ -37,14 +37,14 @@ covers-either-requires : tie.Need-covers-either-requires invariant-loop decrease
 covers-either-requires c κs = search rules
 
 returns : tie.Need-returns invariant-loop decreases-loop
-unfolding usedDevices
+unfolding used_devices
 returns c =
     let h = c.before.before.before.before in
     let s = c.before.before.before.before.before.before in
     let l = s.args.t1.device in
     let k = s.args.t1.devices in
     sym
-    (h.loop.invariant ∙ any-hit l k h.loop.i (long s) (coversEither s.args.a s.args.b) (device 0 0) (omega arith) (sym c.before.covers-either.ensures ∙ c.if1.true))
+    (h.loop.invariant ∙ any-hit l k h.loop.i (long s) (covers_either s.args.a s.args.b) (device 0 0) (omega arith) (sym c.before.covers-either.ensures ∙ c.if1.true))
 
 add-i : tie.Need-overflow-add-i invariant-loop decreases-loop
 add-i c = search rules
@@ -53,22 +53,22 @@ loop-less : tie.Need-loop-smaller invariant-loop decreases-loop
 loop-less c = search rules
 
 loop-again : tie.Need-loop-preserved invariant-loop decreases-loop
-unfolding usedDevices
+unfolding used_devices
 loop-again c =
     let h = c.before.before.before.before in
     let s = c.before.before.before.before.before.before in
     let l = s.args.t1.device in
     let k = s.args.t1.devices in
-    h.loop.invariant ∙ any-miss l k h.loop.i (long s) (coversEither s.args.a s.args.b) (device 0 0) (omega arith)
+    h.loop.invariant ∙ any-miss l k h.loop.i (long s) (covers_either s.args.a s.args.b) (device 0 0) (omega arith)
     (sym c.before.covers-either.ensures ∙ c.if1.false)
 
 returns-2 : tie.Need-returns-2 invariant-loop decreases-loop
-unfolding usedDevices
+unfolding used_devices
 returns-2 c =
     let s = c.before.before.before in
     let l = s.args.t1.device in
     let k = s.args.t1.devices in
-    sym (c.before.loop.invariant ∙ any-end l k c.before.loop.i (long s) (coversEither s.args.a s.args.b) (omega arith))
+    sym (c.before.loop.invariant ∙ any-end l k c.before.loop.i (long s) (covers_either s.args.a s.args.b) (omega arith))
 
 pub device-within-spec : {M : Type 1} → statement M
 device-within-spec =

@@ -4,8 +4,8 @@ use Prim.Native.Nat.{◌*◌, ◌-◌, ◌≤◌}
 use native.Mathlib.Omega.{arith}
 use lib.ListN.{length, drop}
 use Rattle.map.proofs.DeviceLaws.{covers-from}
-use Rattle.map.specs.Devices.{usedDevices}
-use Rattle.map.specs.Places.{place, placeFrom}
+use Rattle.map.specs.Devices.{used_devices}
+use Rattle.map.specs.Places.{place, place_from}
 use Rattle.map.specs.Entries.{device}
 use Rattle.map.proofs.Scans.{mapped}
 use Rattle.map.proofs.DeviceScans.{place-hit, place-miss, place_end}
@@ -14,7 +14,7 @@ use Rattle.map.proofs.places.place_of.Statement.{statement}
 use Rattle.map.proofs.places.place_of.Tie as tie
 
 abbrev invariant-loop : tie.invariant-loop
-invariant-loop mem dev a m n i₀ base₀ i base = (i ≤ 8) × (base ≤ 65535 * i) × (place m mem dev a ≡ placeFrom (drop i (usedDevices m)) i base mem dev a)
+invariant-loop mem dev a m n i₀ base₀ i base = (i ≤ 8) × (base ≤ 65535 * i) × (place m mem dev a ≡ place_from (drop i (used_devices m)) i base mem dev a)
 
 abbrev decreases-loop : tie.decreases-loop
 decreases-loop mem dev a m n i₀ base₀ i base = n - i
@@ -48,7 +48,7 @@ in-bank-requires : tie.Need-in-bank-requires invariant-loop decreases-loop
 in-bank-requires c κs = search rules
 
 returns : tie.Need-returns invariant-loop decreases-loop
-unfolding usedDevices
+unfolding used_devices
 returns c =
     let h = c.before.before.before.before.before.before in
     let s = c.before.before.before.before.before.before.before.before in
@@ -70,7 +70,7 @@ loop-less : tie.Need-loop-smaller invariant-loop decreases-loop
 loop-less c = search rules
 
 loop-again : tie.Need-loop-preserved invariant-loop decreases-loop
-unfolding usedDevices
+unfolding used_devices
 loop-again c =
     let h = c.before.before.before.before.before in
     let s = c.before.before.before.before.before.before.before in
@@ -87,7 +87,7 @@ in-linear-requires : tie.Need-in-linear-requires invariant-loop decreases-loop
 in-linear-requires c κs = search rules
 
 returns-2 : tie.Need-returns-2 invariant-loop decreases-loop
-unfolding usedDevices
+unfolding used_devices
 returns-2 c =
     let s = c.before.before.before.before in
     let l = s.args.t1.device in

@@ -4,7 +4,7 @@ use Prim.Native.Nat.{◌-◌}
 use native.Mathlib.Omega.{arith}
 use lib.ListN.{length, drop}
 use Rattle.map.specs.Tables.{any}
-use Rattle.map.specs.Regions.{regionCovers, usedRegions, protected}
+use Rattle.map.specs.Regions.{region_covers, used_regions, protected}
 use Rattle.map.specs.Entries.{region}
 use Rattle.map.proofs.Scans.{mapped, any-hit, any-miss, any-end}
 use borrow.Author.Rules.{rules}
@@ -12,7 +12,7 @@ use Rattle.map.proofs.regions.is_protected.Statement.{statement}
 use Rattle.map.proofs.regions.is_protected.Tie as tie
 
 abbrev invariant-loop : tie.invariant-loop
-invariant-loop a m n i₀ i = protected m a ≡ any (regionCovers a) (drop i (usedRegions m))
+invariant-loop a m n i₀ i = protected m a ≡ any (region_covers a) (drop i (used_regions m))
 
 abbrev decreases-loop : tie.decreases-loop
 decreases-loop a m n i₀ i = n - i
@@ -38,14 +38,14 @@ region-covers-requires : tie.Need-region-covers-requires invariant-loop decrease
 region-covers-requires c κs = search rules
 
 returns : tie.Need-returns invariant-loop decreases-loop
-unfolding usedRegions
+unfolding used_regions
 returns c =
     let h = c.before.before.before.before in
     let s = c.before.before.before.before.before.before in
     let l = s.args.t1.region in
     let k = s.args.t1.regions in
     sym
-    (h.loop.invariant ∙ any-hit l k h.loop.i (long s) (regionCovers s.args.a) (region 0 0) (omega arith) (sym c.before.region-covers.ensures ∙ c.if1.true))
+    (h.loop.invariant ∙ any-hit l k h.loop.i (long s) (region_covers s.args.a) (region 0 0) (omega arith) (sym c.before.region-covers.ensures ∙ c.if1.true))
 
 add-i : tie.Need-overflow-add-i invariant-loop decreases-loop
 add-i c = search rules
@@ -54,22 +54,22 @@ loop-less : tie.Need-loop-smaller invariant-loop decreases-loop
 loop-less c = search rules
 
 loop-again : tie.Need-loop-preserved invariant-loop decreases-loop
-unfolding usedRegions
+unfolding used_regions
 loop-again c =
     let h = c.before.before.before.before in
     let s = c.before.before.before.before.before.before in
     let l = s.args.t1.region in
     let k = s.args.t1.regions in
-    h.loop.invariant ∙ any-miss l k h.loop.i (long s) (regionCovers s.args.a) (region 0 0) (omega arith)
+    h.loop.invariant ∙ any-miss l k h.loop.i (long s) (region_covers s.args.a) (region 0 0) (omega arith)
     (sym c.before.region-covers.ensures ∙ c.if1.false)
 
 returns-2 : tie.Need-returns-2 invariant-loop decreases-loop
-unfolding usedRegions
+unfolding used_regions
 returns-2 c =
     let s = c.before.before.before in
     let l = s.args.t1.region in
     let k = s.args.t1.regions in
-    sym (c.before.loop.invariant ∙ any-end l k c.before.loop.i (long s) (regionCovers s.args.a) (omega arith))
+    sym (c.before.loop.invariant ∙ any-end l k c.before.loop.i (long s) (region_covers s.args.a) (omega arith))
 
 pub is-protected-spec : {M : Type 1} → statement M
 is-protected-spec =

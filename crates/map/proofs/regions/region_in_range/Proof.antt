@@ -1,7 +1,7 @@
 -- `len <= 65535 - start` is `start + len <= 65535`. Assumes nothing.
 use Prim.Native.Nat.{◌+◌, ◌-◌}
 use native.Mathlib.Omega.{arith}
-use Rattle.map.specs.Regions.{regionInRange}
+use Rattle.map.specs.Regions.{region_in_range}
 use Rattle.base.proofs.Tests.{leb-same}
 use borrow.Author.Rules.{rules}
 use Rattle.map.proofs.regions.region_in_range.Statement.{statement}
@@ -11,7 +11,7 @@ sub-result : tie.Need-overflow-sub-result
 sub-result c = search rules
 
 returns : tie.Need-returns
-unfolding regionInRange
+unfolding region_in_range
 returns c =
     let r = c.before.before.args.r in
     leb-same r.len (65535 - r.start) (r.start + r.len) 65535 (λ h. omega arith) (λ h. omega arith)

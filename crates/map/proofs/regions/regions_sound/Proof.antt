@@ -5,7 +5,7 @@ use native.Mathlib.Omega.{arith}
 use borrow.Author.Tests.{not-true, not-false}
 use lib.ListN.{length, drop}
 use Rattle.map.specs.Tables.{sound}
-use Rattle.map.specs.Regions.{regionInRange, regionsOverlap, usedRegions}
+use Rattle.map.specs.Regions.{region_in_range, regions_overlap, used_regions}
 use Rattle.map.specs.Entries.{region}
 use Rattle.map.proofs.Scans.{mapped, sound-wrong, sound-met, sound-next, sound-end}
 use borrow.Author.Rules.{rules}
@@ -13,7 +13,7 @@ use Rattle.map.proofs.regions.regions_sound.Statement.{statement}
 use Rattle.map.proofs.regions.regions_sound.Tie as tie
 
 abbrev invariant-loop : tie.invariant-loop
-invariant-loop m n i₀ i = sound regionInRange regionsOverlap (usedRegions m) ≡ sound regionInRange regionsOverlap (drop i (usedRegions m))
+invariant-loop m n i₀ i = sound region_in_range regions_overlap (used_regions m) ≡ sound region_in_range regions_overlap (drop i (used_regions m))
 
 abbrev decreases-loop : tie.decreases-loop
 decreases-loop m n i₀ i = n - i
@@ -38,14 +38,14 @@ region-in-range-requires : tie.Need-region-in-range-requires invariant-loop decr
 region-in-range-requires c κs = search rules
 
 returns : tie.Need-returns invariant-loop decreases-loop
-unfolding usedRegions
+unfolding used_regions
 returns c =
     let h = c.before.before.before.before in
     let s = c.before.before.before.before.before.before in
     let l = s.args.t1.region in
     let k = s.args.t1.regions in
     sym
-    (h.loop.invariant ∙ sound-wrong l k h.loop.i (long s) regionInRange regionsOverlap (region 0 0) (omega arith) (sym c.before.region-in-range.ensures ∙ not-true _ c.if1.true))
+    (h.loop.invariant ∙ sound-wrong l k h.loop.i (long s) region_in_range regions_overlap (region 0 0) (omega arith) (sym c.before.region-in-range.ensures ∙ not-true _ c.if1.true))
 
 add-region-meets : tie.Need-overflow-add-region-meets invariant-loop decreases-loop
 add-region-meets c = search rules
@@ -54,14 +54,14 @@ region-meets-requires : tie.Need-region-meets-requires invariant-loop decreases-
 region-meets-requires c κs = search rules
 
 returns-2 : tie.Need-returns-2 invariant-loop decreases-loop
-unfolding usedRegions
+unfolding used_regions
 returns-2 c =
     let h = c.before.before.before.before.before.before in
     let s = c.before.before.before.before.before.before.before.before in
     let l = s.args.t1.region in
     let k = s.args.t1.regions in
     sym
-    (h.loop.invariant ∙ sound-met l k h.loop.i (long s) regionInRange regionsOverlap (region 0 0) (omega arith) (sym c.before.region-meets.ensures ∙ c.if2.true))
+    (h.loop.invariant ∙ sound-met l k h.loop.i (long s) region_in_range regions_overlap (region 0 0) (omega arith) (sym c.before.region-meets.ensures ∙ c.if2.true))
 
 add-i : tie.Need-overflow-add-i invariant-loop decreases-loop
 add-i c = search rules
@@ -70,23 +70,23 @@ loop-less : tie.Need-loop-smaller invariant-loop decreases-loop
 loop-less c = search rules
 
 loop-again : tie.Need-loop-preserved invariant-loop decreases-loop
-unfolding usedRegions
+unfolding used_regions
 loop-again c =
     let h = c.before.before.before.before.before.before in
     let s = c.before.before.before.before.before.before.before.before in
     let l = s.args.t1.region in
     let k = s.args.t1.regions in
-    h.loop.invariant ∙ sound-next l k h.loop.i (long s) regionInRange regionsOverlap (region 0 0) (omega arith)
+    h.loop.invariant ∙ sound-next l k h.loop.i (long s) region_in_range regions_overlap (region 0 0) (omega arith)
     (sym c.before.before.before.region-in-range.ensures ∙ not-false _ c.before.before.if1.false)
     (sym c.before.region-meets.ensures ∙ c.if2.false)
 
 returns-3 : tie.Need-returns-3 invariant-loop decreases-loop
-unfolding usedRegions
+unfolding used_regions
 returns-3 c =
     let s = c.before.before.before in
     let l = s.args.t1.region in
     let k = s.args.t1.regions in
-    sym (c.before.loop.invariant ∙ sound-end l k c.before.loop.i (long s) regionInRange regionsOverlap (omega arith))
+    sym (c.before.loop.invariant ∙ sound-end l k c.before.loop.i (long s) region_in_range regions_overlap (omega arith))
 
 pub regions-sound-spec : {M : Type 1} → statement M
 regions-sound-spec =

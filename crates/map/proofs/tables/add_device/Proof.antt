@@ -1,7 +1,7 @@
 -- Each test that led to an answer is the definition's. Assumes nothing.
 use mathlib.Core.Path.{sym, ◌∙◌}
 use native.Mathlib.Omega.{arith}
-use Rattle.map.specs.Entries.{withDevice}
+use Rattle.map.specs.Entries.{with_device}
 use Rattle.map.proofs.Entries.{device-13, device-14, device-17, device-0}
 use borrow.Author.Rules.{rules}
 use Rattle.map.proofs.tables.add_device.Statement.{statement}
@@ -62,7 +62,7 @@ add-next : tie.Need-overflow-add-next
 add-next c = search rules
 
 returns-4 : tie.Need-returns-4
-unfolding withDevice
+unfolding with_device
 returns-4 c =
     let s = c.before.before.before.before.before.before.before.before in
     device-0 s.args.m s.args.room s.args.d (omega arith)

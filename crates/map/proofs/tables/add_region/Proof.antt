@@ -1,7 +1,7 @@
 -- Each test that led to an answer is the definition's. Assumes nothing.
 use mathlib.Core.Path.{sym, ◌∙◌}
 use native.Mathlib.Omega.{arith}
-use Rattle.map.specs.Entries.{withRegion}
+use Rattle.map.specs.Entries.{with_region}
 use Rattle.map.proofs.Entries.{region-12, region-13, region-14, region-0}
 use borrow.Author.Rules.{rules}
 use Rattle.map.proofs.tables.add_region.Statement.{statement}
@@ -54,7 +54,7 @@ add-next : tie.Need-overflow-add-next
 add-next c = search rules
 
 returns-4 : tie.Need-returns-4
-unfolding withRegion
+unfolding with_region
 returns-4 c =
     let s = c.before.before.before.before.before.before.before.before in
     region-0 s.args.m s.args.r (omega arith) (sym c.before.before.before.before.region-meets.ensures ∙ c.before.before.before.if2.false) (omega arith)

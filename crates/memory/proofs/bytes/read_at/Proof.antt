@@ -1,6 +1,6 @@
 -- Each kind of place reads its own bytes, as far as they go. Assumes nothing.
 use borrow.Author.Tests.{lt-ltb, le-ltb}
-use Rattle.memory.specs.Bytes.{get, readIn}
+use Rattle.memory.specs.Bytes.{get, read_in}
 use borrow.Author.Rules.{rules}
 use Rattle.memory.proofs.bytes.read_at.Statement.{statement}
 use Rattle.memory.proofs.bytes.read_at.Tie as tie
@@ -21,19 +21,19 @@ enum_told : tie.Need-enum-told
 enum_told c = search rules
 
 returns : tie.Need-returns
-unfolding get readIn
+unfolding get read_in
 returns c = rw (c.before.before.before.p.given.1, lt-ltb _ _ c.before.if1.true)
 
 returns-2 : tie.Need-returns-2
-unfolding get readIn
+unfolding get read_in
 returns-2 c = rw (c.before.before.p.given.1, le-ltb _ _ c.if1.false)
 
 returns-3 : tie.Need-returns-3
-unfolding get readIn
+unfolding get read_in
 returns-3 c = rw (c.before.before.before.p2.given.1, lt-ltb _ _ c.before.if2.true)
 
 returns-4 : tie.Need-returns-4
-unfolding get readIn
+unfolding get read_in
 returns-4 c = rw (c.before.before.p2.given.1, le-ltb _ _ c.if2.false)
 
 returns-5 : tie.Need-returns-5

@@ -1,5 +1,5 @@
 -- The byte is read at its place. Assumes nothing.
-use Rattle.memory.specs.Bytes.{readByte, place_in}
+use Rattle.memory.specs.Bytes.{read_byte, place_in}
 use borrow.Author.Rules.{rules}
 use Rattle.memory.proofs.bytes.read_byte.Statement.{statement}
 use Rattle.memory.proofs.bytes.read_byte.Tie as tie
@@ -11,7 +11,7 @@ read-at-requires : tie.Need-read-at-requires
 read-at-requires c κs = search rules
 
 returns : tie.Need-returns
-unfolding readByte place_in
+unfolding read_byte place_in
 returns c = rw (← c.before.place_of.ensures) c.read_at.ensures
 
 pub read-byte-spec : {M : Type 1} → statement M

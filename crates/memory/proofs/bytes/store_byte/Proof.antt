@@ -1,5 +1,5 @@
 -- The byte is stored where a store to its address goes. Assumes nothing.
-use Rattle.memory.specs.Bytes.{takes, storeByte, targetIn}
+use Rattle.memory.specs.Bytes.{takes, store_byte, target_in}
 use borrow.Author.Rules.{rules}
 use Rattle.memory.proofs.bytes.store_byte.Statement.{statement}
 use Rattle.memory.proofs.bytes.store_byte.Tie as tie
@@ -20,7 +20,7 @@ same-length-2 : tie.Need-same-length-2
 same-length-2 c = c.before.before.before.before.before.store_at.auto.1.1.0
 
 returns : tie.Need-returns
-unfolding takes storeByte targetIn
+unfolding takes store_byte target_in
 returns c = (rw (← c.before.before.before.before.before.before.before.before.target-of.ensures) c.is-somewhere.ensures, rw (← c.before.before.before.before.before.before.before.before.target-of.ensures) c.before.before.before.before.before.store_at.ensures)
 
 pub store-byte-spec : {M : Type 1} → statement M

@@ -1,5 +1,5 @@
 -- A store is made where it has a place to go to. Assumes nothing.
-use Rattle.memory.specs.Bytes.{takes, targetIn}
+use Rattle.memory.specs.Bytes.{takes, target_in}
 use borrow.Author.Rules.{rules}
 use Rattle.memory.proofs.bytes.takes_byte.Statement.{statement}
 use Rattle.memory.proofs.bytes.takes_byte.Tie as tie
@@ -11,7 +11,7 @@ is-somewhere-requires : tie.Need-is-somewhere-requires
 is-somewhere-requires c κs = search rules
 
 returns : tie.Need-returns
-unfolding takes targetIn
+unfolding takes target_in
 returns c = rw (← c.before.target-of.ensures) c.is-somewhere.ensures
 
 pub takes-byte-spec : {M : Type 1} → statement M

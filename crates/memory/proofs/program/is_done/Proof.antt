@@ -1,5 +1,5 @@
 -- One answer for each outcome. Assumes nothing.
-use Rattle.memory.specs.Words.{isDone}
+use Rattle.memory.specs.Words.{is_done}
 use borrow.Author.Rules.{rules}
 use Rattle.memory.proofs.program.is_done.Statement.{statement}
 use Rattle.memory.proofs.program.is_done.Tie as tie
@@ -14,15 +14,15 @@ enum-told-3 : tie.Need-enum-told-3
 enum-told-3 c = search rules
 
 returns : tie.Need-returns
-unfolding isDone
+unfolding is_done
 returns c = rw c.enum_told.given.1
 
 returns-2 : tie.Need-returns-2
-unfolding isDone
+unfolding is_done
 returns-2 c = rw c.enum-told2.given.1
 
 returns-3 : tie.Need-returns-3
-unfolding isDone
+unfolding is_done
 returns-3 c = rw c.enum-told3.given.1
 
 pub is-done-spec : {M : Type 1} → statement M

@@ -4,8 +4,8 @@ use mathlib.Core.Bool.{true, false}
 use lib.ListN.{length}
 use borrow.Author.Tests.{not-true, not-false}
 use Rattle.map.specs.Places.{somewhere, target}
-use Rattle.memory.specs.Bytes.{targetIn, takes}
-use Rattle.memory.specs.Words.{byteStored, changeAt, byteDecision}
+use Rattle.memory.specs.Bytes.{target_in, takes}
+use Rattle.memory.specs.Words.{byte_stored, change_at, byte_decision}
 use borrow.Author.Rules.{rules}
 use Rattle.memory.proofs.words.decide_byte.Statement.{statement}
 use Rattle.memory.proofs.words.decide_byte.Tie as tie
@@ -17,14 +17,14 @@ is-somewhere-requires : tie.Need-is-somewhere-requires
 is-somewhere-requires c κs = search rules
 
 returns : tie.Need-returns
-unfolding byteDecision byteStored takes targetIn
+unfolding byte_decision byte_stored takes target_in
 returns c =
     let x = c.before.before.before.before.before.args in
     let e : somewhere (target x.m (length x.mem.now) (length x.dev.now) x.a) ≡ false = ap somewhere (sym c.before.before.target-of.ensures) ∙ sym c.before.is-somewhere.ensures ∙ not-true _ c.if1.true in
     rw e
 
 returns-2 : tie.Need-returns-2
-unfolding byteDecision byteStored changeAt takes targetIn
+unfolding byte_decision byte_stored change_at takes target_in
 returns-2 c =
     let x = c.before.before.before.before.before.args in
     let e : somewhere (target x.m (length x.mem.now) (length x.dev.now) x.a) ≡ true = ap somewhere (sym c.before.before.target-of.ensures) ∙ sym c.before.is-somewhere.ensures ∙ not-false _ c.if1.false in

@@ -3,11 +3,11 @@ use mathlib.Core.Path.{◌≡◌, sym, ap, ◌∙◌}
 use mathlib.Core.Bool.{true, false}
 use lib.ListN.{length}
 use borrow.Author.Tests.{not-true, not-false}
-use Rattle.base.specs.Addresses.{secondAddress}
+use Rattle.base.specs.Addresses.{second_address}
 use Rattle.base.specs.declared.addresses.Reached.TheVariants.{At, Past}
 use Rattle.map.specs.Places.{somewhere, target}
-use Rattle.memory.specs.Bytes.{targetIn, takes}
-use Rattle.memory.specs.Words.{wordStored, changeAt, wordChanges, wordDecision}
+use Rattle.memory.specs.Bytes.{target_in, takes}
+use Rattle.memory.specs.Words.{word_stored, change_at, word_changes, word_decision}
 use borrow.Author.Rules.{rules}
 use Rattle.memory.proofs.words.decide_word.Statement.{statement}
 use Rattle.memory.proofs.words.decide_word.Tie as tie
@@ -19,7 +19,7 @@ is-somewhere-requires : tie.Need-is-somewhere-requires
 is-somewhere-requires c κs = search rules
 
 returns : tie.Need-returns
-unfolding wordDecision wordStored takes targetIn
+unfolding word_decision word_stored takes target_in
 returns c =
     let x = c.before.before.before.before.before.args in
     let e : somewhere (target x.m (length x.mem.now) (length x.dev.now) x.a) ≡ false = ap somewhere (sym c.before.before.target-of.ensures) ∙ sym c.before.is-somewhere.ensures ∙ not-true _ c.if1.true in
@@ -41,19 +41,19 @@ enum_told : tie.Need-enum-told
 enum_told c = search rules
 
 returns-2 : tie.Need-returns-2
-unfolding wordDecision wordStored wordChanges changeAt takes targetIn
+unfolding word_decision word_stored word_changes change_at takes target_in
 returns-2 c =
     let x = c.before.before.before.before.before.before.before.before.before.before.before.args in
     let e : somewhere (target x.m (length x.mem.now) (length x.dev.now) x.a) ≡ true = ap somewhere (sym c.before.before.before.before.before.before.before.before.target-of.ensures) ∙ sym c.before.before.before.before.before.before.before.is-somewhere.ensures ∙ not-false _ c.before.before.before.before.before.before.if1.false in
-    let n : secondAddress x.a ≡ At c.before.before.b.given.0.0 = sym c.before.before.before.before.second-address.ensures ∙ c.before.before.b.given.1 in
+    let n : second_address x.a ≡ At c.before.before.b.given.0.0 = sym c.before.before.before.before.second-address.ensures ∙ c.before.before.b.given.1 in
     c.decide-high.ensures ∙ rw (c.before.before.before.before.before.before.before.before.target-of.ensures, c.before.before.before.before.before.low.ensures, e, n)
 
 returns-3 : tie.Need-returns-3
-unfolding wordDecision wordStored wordChanges takes targetIn
+unfolding word_decision word_stored word_changes takes target_in
 returns-3 c =
     let x = c.before.before.before.before.before.before.before.before.before.args in
     let e : somewhere (target x.m (length x.mem.now) (length x.dev.now) x.a) ≡ true = ap somewhere (sym c.before.before.before.before.before.before.target-of.ensures) ∙ sym c.before.before.before.before.before.is-somewhere.ensures ∙ not-false _ c.before.before.before.before.if1.false in
-    let n : secondAddress x.a ≡ Past = sym c.before.before.second-address.ensures ∙ c.enum_told.given.1 in
+    let n : second_address x.a ≡ Past = sym c.before.before.second-address.ensures ∙ c.enum_told.given.1 in
     rw (e, n)
 
 pub decide-word-spec : {M : Type 1} → statement M

@@ -1,7 +1,7 @@
 -- What was decided is made, and that is the word's store. Assumes nothing.
 use mathlib.Core.Path.{ap, ◌∙◌}
 use Rattle.memory.specs.Bytes.{lent}
-use Rattle.memory.specs.Words.{Decided, wordDecision, made}
+use Rattle.memory.specs.Words.{Decided, word_decision, made}
 use Rattle.memory.proofs.Decisions.{decision-makes}
 use borrow.Author.Rules.{rules}
 use Rattle.memory.proofs.words.store_word.Statement.{statement}
@@ -20,7 +20,7 @@ same-length-2 : tie.Need-same-length-2
 same-length-2 c = c.before.before.before.before.make.auto.1.1.0
 
 returns : tie.Need-returns
-unfolding wordDecision
+unfolding word_decision
 returns c =
     let s = c.before.before.before.before.before.before.before.before.before.before.before.before in
     let d = c.before.before.before.before.before.before.before.decide-word in

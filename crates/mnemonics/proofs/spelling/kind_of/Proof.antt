@@ -9,7 +9,7 @@ use Rattle.base.specs.Bytes.{same}
 use Rattle.mnemonics.specs.declared.Kind.{Kind}
 use Rattle.mnemonics.specs.declared.Kind.TheVariants.{Unknown}
 use Rattle.mnemonics.specs.declared.Mnemonic.{Mnemonic}
-use Rattle.mnemonics.specs.Mnemonics.{rows, name_of, upper, kindIn, kind_of}
+use Rattle.mnemonics.specs.Mnemonics.{rows, name_of, upper, kind_in, kind_of}
 use Rattle.mnemonics.proofs.Scans.{no_row, row-hit, row-miss, rows_end, at-most-five, thirty}
 use borrow.Author.Rules.{rules}
 use Rattle.mnemonics.proofs.spelling.kind_of.Statement.{statement}
@@ -22,7 +22,7 @@ abbrev kind : Mnemonic → Kind
 kind m = m.kind
 
 abbrev invariant-loop : tie.invariant-loop
-invariant-loop token t i₀ i = (i ≤ 30) × (kindIn (drop i rows) (map upper token) ≡ kind_of token)
+invariant-loop token t i₀ i = (i ≤ 30) × (kind_in (drop i rows) (map upper token) ≡ kind_of token)
 
 abbrev decreases-loop : tie.decreases-loop
 decreases-loop token t i₀ i = 30 - i

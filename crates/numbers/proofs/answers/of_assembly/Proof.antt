@@ -3,7 +3,7 @@ use mathlib.Core.Path.{sym, ap, ◌∙◌}
 use native.Mathlib.Omega.{arith}
 use Rattle.asm.specs.Assemble.{reported}
 use Rattle.asm.specs.declared.Assembled.{Assembled}
-use Rattle.numbers.specs.Answers.{assembledNumber}
+use Rattle.numbers.specs.Answers.{assembled_number}
 use Rattle.numbers.proofs.FittingLaws.{counts-fit}
 use borrow.Author.Rules.{rules}
 use Rattle.numbers.proofs.answers.of_assembly.Statement.{statement}
@@ -50,11 +50,11 @@ coded-requires : tie.Need-coded-requires
 coded-requires c κs = search rules
 
 returns : tie.Need-returns
-returns c = sym (ap (λ (x : Assembled). assembledNumber (reported x)) c.before.a.given.1)
+returns c = sym (ap (λ (x : Assembled). assembled_number (reported x)) c.before.a.given.1)
 
 returns-2 : tie.Need-returns-2
 returns-2 c =
-    let e = ap (λ (x : Assembled). assembledNumber (reported x)) c.before.before.before.before.a2.given.1 in
+    let e = ap (λ (x : Assembled). assembled_number (reported x)) c.before.before.before.before.a2.given.1 in
     c.coded.ensures ∙ rw (c.before.before.refused.ensures.0, c.before.line-above.ensures.0) (sym e)
 
 pub of-assembly-spec : {M : Type 1} → statement M

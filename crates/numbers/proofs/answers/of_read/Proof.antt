@@ -3,7 +3,7 @@ use mathlib.Core.Path.{sym, ap, ◌∙◌}
 use native.Mathlib.Omega.{arith}
 use Rattle.memory.specs.Blocks.{counted}
 use Rattle.memory.specs.declared.ReadOut.{ReadOut}
-use Rattle.numbers.specs.Answers.{countedNumber}
+use Rattle.numbers.specs.Answers.{counted_number}
 use borrow.Author.Rules.{rules}
 use Rattle.numbers.proofs.answers.of_read.Statement.{statement}
 use Rattle.numbers.proofs.answers.of_read.Tie as tie
@@ -23,11 +23,11 @@ refused-requires : tie.Need-refused-requires
 refused-requires c κs = search rules
 
 returns : tie.Need-returns
-returns c = c.coded.ensures ∙ sym (ap (λ (x : ReadOut). countedNumber (counted x)) c.before.before.a.given.1)
+returns c = c.coded.ensures ∙ sym (ap (λ (x : ReadOut). counted_number (counted x)) c.before.before.a.given.1)
 
 returns-2 : tie.Need-returns-2
 returns-2 c =
-    let e = ap (λ (x : ReadOut). countedNumber (counted x)) c.before.before.a2.given.1 in
+    let e = ap (λ (x : ReadOut). counted_number (counted x)) c.before.before.a2.given.1 in
     omega (arith, c.refused.ensures.0, e)
 
 pub of-read-spec : {M : Type 1} → statement M

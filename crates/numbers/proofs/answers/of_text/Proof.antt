@@ -3,7 +3,7 @@ use mathlib.Core.Path.{sym, ap, subst, ◌∙◌}
 use native.Mathlib.Omega.{arith}
 use Rattle.source.specs.declared.Written.{Written}
 use Rattle.source.specs.Source.{answered, Small}
-use Rattle.numbers.specs.Answers.{sourcedNumber}
+use Rattle.numbers.specs.Answers.{sourced_number}
 use borrow.Author.Rules.{rules}
 use Rattle.numbers.proofs.answers.of_text.Statement.{statement}
 use Rattle.numbers.proofs.answers.of_text.Tie as tie
@@ -28,10 +28,10 @@ coded-requires-2 c κs =
     (omega (arith, c.refused.ensures.1), omega (arith, small.2))
 
 returns : tie.Need-returns
-returns c = c.coded.ensures ∙ sym (ap (λ (x : Written). sourcedNumber (answered x)) c.before.before.w.given.1)
+returns c = c.coded.ensures ∙ sym (ap (λ (x : Written). sourced_number (answered x)) c.before.before.w.given.1)
 
 returns-2 : tie.Need-returns-2
-returns-2 c = c.coded2.ensures ∙ rw c.before.refused.ensures.0 (sym (ap (λ (x : Written). sourcedNumber (answered x)) c.before.before.before.w2.given.1))
+returns-2 c = c.coded2.ensures ∙ rw c.before.refused.ensures.0 (sym (ap (λ (x : Written). sourced_number (answered x)) c.before.before.before.w2.given.1))
 
 pub of-text-spec : {M : Type 1} → statement M
 of-text-spec =

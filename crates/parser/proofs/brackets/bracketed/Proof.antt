@@ -4,8 +4,8 @@ use mathlib.Core.Path.{◌∙◌, ◌≡◌, ap, sym}
 use Rattle.base.specs.Numbers.{number_of}
 use Rattle.base.specs.Told.{is, no}
 use Rattle.parser.proofs.OperandLaws.{two_is}
-use Rattle.parser.specs.Answers.{at, toldByte, toldRegister}
-use Rattle.parser.specs.Operands.{bracketed, closedByte, nth}
+use Rattle.parser.specs.Answers.{at, told_byte, told_register}
+use Rattle.parser.specs.Operands.{bracketed, closed_byte, nth}
 use Rattle.text.specs.Tokens.{tokens}
 use Rattle.parser.proofs.brackets.bracketed.Statement.{statement}
 use Rattle.parser.proofs.brackets.bracketed.Tie as tie
@@ -32,9 +32,9 @@ returns c =
     let c8 = c3.before.before.before.before.before in
     let s = c8.args.line.now in
     let r₁ = c3.before.before.register.given in
-    let r : toldRegister c8.args.register ≡ is r₁.0.0 = ap toldRegister r₁.1 in
+    let r : told_register c8.args.register ≡ is r₁.0.0 = ap told_register r₁.1 in
     let n₁ = c.before.shift.given in
-    let n : nth 3 (closedByte 24) (tokens s) ≡ is n₁.0.0 = sym c3.closed-byte.ensures ∙ ap toldByte n₁.1 in
+    let n : nth 3 (closed_byte 24) (tokens s) ≡ is n₁.0.0 = sym c3.closed-byte.ensures ∙ ap told_byte n₁.1 in
     two_is (λ r n. is (at r n)) r n
 
 returns-2 : tie.Need-returns-2
@@ -44,9 +44,9 @@ returns-2 c =
     let c8 = c3.before.before.before.before.before in
     let s = c8.args.line.now in
     let r₁ = c3.before.before.register.given in
-    let r : toldRegister c8.args.register ≡ is r₁.0.0 = ap toldRegister r₁.1 in
+    let r : told_register c8.args.register ≡ is r₁.0.0 = ap told_register r₁.1 in
     let n₁ = c.before.shift2.given in
-    let n : nth 3 (closedByte 24) (tokens s) ≡ no (number_of n₁.0.0) = sym c3.closed-byte.ensures ∙ ap toldByte n₁.1 in
+    let n : nth 3 (closed_byte 24) (tokens s) ≡ no (number_of n₁.0.0) = sym c3.closed-byte.ensures ∙ ap told_byte n₁.1 in
     rw (r, n)
 
 returns-3 : tie.Need-returns-3
@@ -55,7 +55,7 @@ returns-3 c =
     let c4 = c.before.before.before.before in
     let s = c4.args.line.now in
     let r₁ = c.before.register2.given in
-    let r : toldRegister c4.args.register ≡ no (number_of r₁.0.0) = ap toldRegister r₁.1 in
+    let r : told_register c4.args.register ≡ no (number_of r₁.0.0) = ap told_register r₁.1 in
     rw r
 
 pub bracketed-spec : {M : Type 1} → statement M

@@ -5,11 +5,11 @@ use mathlib.Core.Path.{◌∙◌, ◌≡◌, ap, sym}
 use Rattle.base.specs.Numbers.{number_of}
 use Rattle.base.specs.Told.{is, no}
 use Rattle.parser.proofs.OperandLaws.{nth-missing, nth-there, one-is}
-use Rattle.parser.specs.Answers.{toldImmediate}
-use Rattle.parser.specs.Operands.{closedByte, closing, eightBits}
+use Rattle.parser.specs.Answers.{told_immediate}
+use Rattle.parser.specs.Operands.{closed_byte, closing, eight_bits}
 use Rattle.text.specs.Immediates.{immediate}
-use Rattle.text.specs.Parts.{dropEnd, equals}
-use Rattle.text.specs.Tokens.{tokenAt}
+use Rattle.text.specs.Parts.{drop_end, equals}
+use Rattle.text.specs.Tokens.{token_at}
 use Rattle.parser.proofs.brackets.closed_byte.Statement.{statement}
 use Rattle.parser.proofs.brackets.closed_byte.Tie as tie
 
@@ -19,8 +19,8 @@ token-requires c κs = search rules
 returns : tie.Need-returns
 returns c =
     let s = c.before.before.before.args.line.now in
-    let none : length (tokenAt s 3) ≡ 0 = ap length (sym c.before.token.ensures) ∙ c.if1.true in
-    sym (nth-missing (closedByte (number_of c.before.before.before.args.over)) s 3 none)
+    let none : length (token_at s 3) ≡ 0 = ap length (sym c.before.token.ensures) ∙ c.if1.true in
+    sym (nth-missing (closed_byte (number_of c.before.before.before.args.over)) s 3 none)
 
 drop-final-requires : tie.Need-drop-final-requires
 drop-final-requires c κs = search rules
@@ -42,18 +42,18 @@ returns-2 c =
     let c4 = c.before.before.before.before in
     let c7 = c4.before.before.before in
     let s = c7.before.before.args.line.now in
-    let some : length (tokenAt s 3) ≡ 0 → ⊥ = λ e. c4.before.before.if1.false (ap length c7.token.ensures ∙ e) in
-    let n : immediate (dropEnd (equals closing) (tokenAt s 3)) ≡ is c.before.before.v.given.0.0 = ap immediate (ap (dropEnd (equals closing)) (sym c7.token.ensures) ∙ sym c4.before.drop-final.ensures) ∙ sym c4.parse-immediate.ensures ∙ ap toldImmediate c.before.before.v.given.1 in
-    c.eight-bits.ensures ∙ rw (nth-there (closedByte (number_of c7.before.before.args.over)) s 3 some) (one-is (eightBits (number_of c7.before.before.args.over)) n)
+    let some : length (token_at s 3) ≡ 0 → ⊥ = λ e. c4.before.before.if1.false (ap length c7.token.ensures ∙ e) in
+    let n : immediate (drop_end (equals closing) (token_at s 3)) ≡ is c.before.before.v.given.0.0 = ap immediate (ap (drop_end (equals closing)) (sym c7.token.ensures) ∙ sym c4.before.drop-final.ensures) ∙ sym c4.parse-immediate.ensures ∙ ap told_immediate c.before.before.v.given.1 in
+    c.eight-bits.ensures ∙ rw (nth-there (closed_byte (number_of c7.before.before.args.over)) s 3 some) (one-is (eight_bits (number_of c7.before.before.args.over)) n)
 
 returns-3 : tie.Need-returns-3
 returns-3 c =
     let c3 = c.before.before.before in
     let c6 = c3.before.before.before in
     let s = c6.before.before.args.line.now in
-    let some : length (tokenAt s 3) ≡ 0 → ⊥ = λ e. c3.before.before.if1.false (ap length c6.token.ensures ∙ e) in
-    let n : immediate (dropEnd (equals closing) (tokenAt s 3)) ≡ no (number_of c.before.v2.given.0.0) = ap immediate (ap (dropEnd (equals closing)) (sym c6.token.ensures) ∙ sym c3.before.drop-final.ensures) ∙ sym c3.parse-immediate.ensures ∙ ap toldImmediate c.before.v2.given.1 in
-    rw (nth-there (closedByte (number_of c6.before.before.args.over)) s 3 some, n)
+    let some : length (token_at s 3) ≡ 0 → ⊥ = λ e. c3.before.before.if1.false (ap length c6.token.ensures ∙ e) in
+    let n : immediate (drop_end (equals closing) (token_at s 3)) ≡ no (number_of c.before.v2.given.0.0) = ap immediate (ap (drop_end (equals closing)) (sym c6.token.ensures) ∙ sym c3.before.drop-final.ensures) ∙ sym c3.parse-immediate.ensures ∙ ap told_immediate c.before.v2.given.1 in
+    rw (nth-there (closed_byte (number_of c6.before.before.args.over)) s 3 some, n)
 
 pub closed-byte-spec : {M : Type 1} → statement M
 closed-byte-spec =

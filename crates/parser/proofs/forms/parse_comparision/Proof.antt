@@ -4,8 +4,8 @@ use mathlib.Core.Path.{◌∙◌, ◌≡◌, ap, sym}
 use Rattle.base.specs.Numbers.{number_of}
 use Rattle.base.specs.Told.{is, no}
 use Rattle.parser.proofs.OperandLaws.{one-is}
-use Rattle.parser.specs.Answers.{both, toldPair}
-use Rattle.parser.specs.Operands.{registerAndOperand}
+use Rattle.parser.specs.Answers.{both, told_pair}
+use Rattle.parser.specs.Operands.{register_and_operand}
 use Rattle.parser.specs.Parse.{compare, saying}
 use Rattle.text.specs.Tokens.{tokens}
 use Rattle.instruction.specs.declared.Instruction.TheVariants.{Cmp}
@@ -27,7 +27,7 @@ returns c =
     let c3 = c.before.before.before in
     let s = c3.before.before.args.line.now in
     let p₁ = c.before.p.given in
-    let p : registerAndOperand (tokens s) ≡ is (both p₁.0.0 p₁.0.1.0) = sym c3.register-and-operand.ensures ∙ ap toldPair p₁.1 in
+    let p : register_and_operand (tokens s) ≡ is (both p₁.0.0 p₁.0.1.0) = sym c3.register-and-operand.ensures ∙ ap told_pair p₁.1 in
     one-is (saying (λ r o. Cmp r o c3.before.before.args.op)) p
 
 returns-2 : tie.Need-returns-2
@@ -36,7 +36,7 @@ returns-2 c =
     let c3 = c.before.before.before in
     let s = c3.before.before.args.line.now in
     let p₁ = c.before.p2.given in
-    let p : registerAndOperand (tokens s) ≡ no (number_of p₁.0.0) = sym c3.register-and-operand.ensures ∙ ap toldPair p₁.1 in
+    let p : register_and_operand (tokens s) ≡ no (number_of p₁.0.0) = sym c3.register-and-operand.ensures ∙ ap told_pair p₁.1 in
     rw p
 
 pub parse-comparision-spec : {M : Type 1} → statement M

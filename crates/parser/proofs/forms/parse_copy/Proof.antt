@@ -4,8 +4,8 @@ use mathlib.Core.Path.{◌∙◌, ◌≡◌, ap, sym}
 use Rattle.base.specs.Numbers.{number_of}
 use Rattle.base.specs.Told.{is, no}
 use Rattle.parser.proofs.OperandLaws.{two_is}
-use Rattle.parser.specs.Answers.{says, toldRegister}
-use Rattle.parser.specs.Operands.{commaRegister, nth, register}
+use Rattle.parser.specs.Answers.{says, told_register}
+use Rattle.parser.specs.Operands.{comma_register, nth, register}
 use Rattle.parser.specs.Parse.{copy}
 use Rattle.text.specs.Tokens.{tokens}
 use Rattle.instruction.specs.declared.Instruction.TheVariants.{Cpy}
@@ -37,9 +37,9 @@ returns c =
     let c7 = c3.before.before.before.before in
     let s = c7.before.before.args.line.now in
     let a₁ = c3.before.before.source.given in
-    let a : nth 1 commaRegister (tokens s) ≡ is a₁.0.0 = sym c7.comma-register-at.ensures ∙ ap toldRegister a₁.1 in
+    let a : nth 1 comma_register (tokens s) ≡ is a₁.0.0 = sym c7.comma-register-at.ensures ∙ ap told_register a₁.1 in
     let b₁ = c.before.target.given in
-    let b : nth 2 register (tokens s) ≡ is b₁.0.0 = sym c3.register-at.ensures ∙ ap toldRegister b₁.1 in
+    let b : nth 2 register (tokens s) ≡ is b₁.0.0 = sym c3.register-at.ensures ∙ ap told_register b₁.1 in
     two_is (λ a b. is (says (Cpy a b))) a b
 
 returns-2 : tie.Need-returns-2
@@ -49,9 +49,9 @@ returns-2 c =
     let c7 = c3.before.before.before.before in
     let s = c7.before.before.args.line.now in
     let a₁ = c3.before.before.source.given in
-    let a : nth 1 commaRegister (tokens s) ≡ is a₁.0.0 = sym c7.comma-register-at.ensures ∙ ap toldRegister a₁.1 in
+    let a : nth 1 comma_register (tokens s) ≡ is a₁.0.0 = sym c7.comma-register-at.ensures ∙ ap told_register a₁.1 in
     let b₁ = c.before.target2.given in
-    let b : nth 2 register (tokens s) ≡ no (number_of b₁.0.0) = sym c3.register-at.ensures ∙ ap toldRegister b₁.1 in
+    let b : nth 2 register (tokens s) ≡ no (number_of b₁.0.0) = sym c3.register-at.ensures ∙ ap told_register b₁.1 in
     rw (a, b)
 
 returns-3 : tie.Need-returns-3
@@ -60,7 +60,7 @@ returns-3 c =
     let c3 = c.before.before.before in
     let s = c3.before.before.args.line.now in
     let a₁ = c.before.source2.given in
-    let a : nth 1 commaRegister (tokens s) ≡ no (number_of a₁.0.0) = sym c3.comma-register-at.ensures ∙ ap toldRegister a₁.1 in
+    let a : nth 1 comma_register (tokens s) ≡ no (number_of a₁.0.0) = sym c3.comma-register-at.ensures ∙ ap told_register a₁.1 in
     rw a
 
 pub parse-copy-spec : {M : Type 1} → statement M

@@ -4,8 +4,8 @@ use mathlib.Core.Path.{◌∙◌, ◌≡◌, ap, sym}
 use Rattle.base.specs.Numbers.{number_of}
 use Rattle.base.specs.Told.{is, no}
 use Rattle.parser.proofs.OperandLaws.{two_is}
-use Rattle.parser.specs.Answers.{at, says, toldAddress, toldRegister}
-use Rattle.parser.specs.Operands.{address, commaRegister, nth}
+use Rattle.parser.specs.Answers.{at, says, told_address, told_register}
+use Rattle.parser.specs.Operands.{address, comma_register, nth}
 use Rattle.parser.specs.Parse.{moving, transfer}
 use Rattle.text.specs.Tokens.{tokens}
 use Rattle.instruction.specs.declared.Instruction.{Instruction}
@@ -40,9 +40,9 @@ returns c =
     let c8 = c4.before.before.before.before in
     let s = c8.before.before.args.line.now in
     let r₁ = c4.before.before.register.given in
-    let r : nth 1 commaRegister (tokens s) ≡ is r₁.0.0 = sym c8.comma-register-at.ensures ∙ ap toldRegister r₁.1 in
+    let r : nth 1 comma_register (tokens s) ≡ is r₁.0.0 = sym c8.comma-register-at.ensures ∙ ap told_register r₁.1 in
     let a₁ = c.before.before.place.given in
-    let a : nth 2 (address (tokens s)) (tokens s) ≡ is (at a₁.0.0 a₁.0.1.0) = sym c4.address-at.ensures ∙ ap toldAddress a₁.1 in
+    let a : nth 2 (address (tokens s)) (tokens s) ≡ is (at a₁.0.0 a₁.0.1.0) = sym c4.address-at.ensures ∙ ap told_address a₁.1 in
     ap (λ (i : Instruction). is (says i)) c.transferred.ensures ∙ two_is (moving c8.before.before.args.byte c8.before.before.args.store) r a
 
 returns-2 : tie.Need-returns-2
@@ -52,9 +52,9 @@ returns-2 c =
     let c7 = c3.before.before.before.before in
     let s = c7.before.before.args.line.now in
     let r₁ = c3.before.before.register.given in
-    let r : nth 1 commaRegister (tokens s) ≡ is r₁.0.0 = sym c7.comma-register-at.ensures ∙ ap toldRegister r₁.1 in
+    let r : nth 1 comma_register (tokens s) ≡ is r₁.0.0 = sym c7.comma-register-at.ensures ∙ ap told_register r₁.1 in
     let a₁ = c.before.place2.given in
-    let a : nth 2 (address (tokens s)) (tokens s) ≡ no (number_of a₁.0.0) = sym c3.address-at.ensures ∙ ap toldAddress a₁.1 in
+    let a : nth 2 (address (tokens s)) (tokens s) ≡ no (number_of a₁.0.0) = sym c3.address-at.ensures ∙ ap told_address a₁.1 in
     rw (r, a)
 
 returns-3 : tie.Need-returns-3
@@ -63,7 +63,7 @@ returns-3 c =
     let c3 = c.before.before.before in
     let s = c3.before.before.args.line.now in
     let r₁ = c.before.register2.given in
-    let r : nth 1 commaRegister (tokens s) ≡ no (number_of r₁.0.0) = sym c3.comma-register-at.ensures ∙ ap toldRegister r₁.1 in
+    let r : nth 1 comma_register (tokens s) ≡ no (number_of r₁.0.0) = sym c3.comma-register-at.ensures ∙ ap told_register r₁.1 in
     rw r
 
 pub parse-ldr-str-spec : {M : Type 1} → statement M

@@ -6,11 +6,11 @@ use mathlib.Core.Path.{◌∙◌, ◌≡◌, ap, sym}
 use Rattle.base.specs.Numbers.{number_of}
 use Rattle.base.specs.Told.{is, no}
 use Rattle.parser.proofs.OperandLaws.{nth-missing, nth-there, one-is}
-use Rattle.parser.specs.Answers.{says, toldImmediate}
+use Rattle.parser.specs.Answers.{says, told_immediate}
 use Rattle.parser.specs.Operands.{hash, starts}
 use Rattle.parser.specs.Parse.{callee}
 use Rattle.text.specs.Immediates.{immediate}
-use Rattle.text.specs.Tokens.{tokenAt}
+use Rattle.text.specs.Tokens.{token_at}
 use Rattle.instruction.specs.declared.Instruction.TheVariants.{CallRet}
 use Rattle.parser.proofs.jumps.parse_call.Statement.{statement}
 use Rattle.parser.proofs.jumps.parse_call.Tie as tie
@@ -21,7 +21,7 @@ token-requires c κs = search rules
 returns : tie.Need-returns
 returns c =
     let s = c.before.before.before.args.line.now in
-    let none : length (tokenAt s 1) ≡ 0 = ap length (sym c.before.token.ensures) ∙ c.if1.true in
+    let none : length (token_at s 1) ≡ 0 = ap length (sym c.before.token.ensures) ∙ c.if1.true in
     sym (nth-missing callee s 1 none)
 
 starts-requires : tie.Need-starts-requires
@@ -43,9 +43,9 @@ returns-2 c =
     let c6 = c3.before.before.before in
     let c9 = c6.before.before.before in
     let s = c9.args.line.now in
-    let some : length (tokenAt s 1) ≡ 0 → ⊥ = λ e. c6.if1.false (ap length c6.before.token.ensures ∙ e) in
-    let h : starts hash (tokenAt s 1) ≡ true = ap (starts hash) (sym c6.before.token.ensures) ∙ sym c3.before.before.starts.ensures ∙ c3.before.if2.true in
-    let v : immediate (tokenAt s 1) ≡ is c.before.v.given.0.0 = ap immediate (sym c6.before.token.ensures) ∙ sym c3.parse-immediate.ensures ∙ ap toldImmediate c.before.v.given.1 in
+    let some : length (token_at s 1) ≡ 0 → ⊥ = λ e. c6.if1.false (ap length c6.before.token.ensures ∙ e) in
+    let h : starts hash (token_at s 1) ≡ true = ap (starts hash) (sym c6.before.token.ensures) ∙ sym c3.before.before.starts.ensures ∙ c3.before.if2.true in
+    let v : immediate (token_at s 1) ≡ is c.before.v.given.0.0 = ap immediate (sym c6.before.token.ensures) ∙ sym c3.parse-immediate.ensures ∙ ap told_immediate c.before.v.given.1 in
     rw (nth-there callee s 1 some, h) (one-is (λ n. is (says (CallRet false n))) v)
 
 returns-3 : tie.Need-returns-3
@@ -55,9 +55,9 @@ returns-3 c =
     let c6 = c3.before.before.before in
     let c9 = c6.before.before.before in
     let s = c9.args.line.now in
-    let some : length (tokenAt s 1) ≡ 0 → ⊥ = λ e. c6.if1.false (ap length c6.before.token.ensures ∙ e) in
-    let h : starts hash (tokenAt s 1) ≡ true = ap (starts hash) (sym c6.before.token.ensures) ∙ sym c3.before.before.starts.ensures ∙ c3.before.if2.true in
-    let v : immediate (tokenAt s 1) ≡ no (number_of c.before.v2.given.0.0) = ap immediate (sym c6.before.token.ensures) ∙ sym c3.parse-immediate.ensures ∙ ap toldImmediate c.before.v2.given.1 in
+    let some : length (token_at s 1) ≡ 0 → ⊥ = λ e. c6.if1.false (ap length c6.before.token.ensures ∙ e) in
+    let h : starts hash (token_at s 1) ≡ true = ap (starts hash) (sym c6.before.token.ensures) ∙ sym c3.before.before.starts.ensures ∙ c3.before.if2.true in
+    let v : immediate (token_at s 1) ≡ no (number_of c.before.v2.given.0.0) = ap immediate (sym c6.before.token.ensures) ∙ sym c3.parse-immediate.ensures ∙ ap told_immediate c.before.v2.given.1 in
     rw (nth-there callee s 1 some, h, v)
 
 returns-4 : tie.Need-returns-4
@@ -65,8 +65,8 @@ unfolding callee
 returns-4 c =
     let c3 = c.before.before.before in
     let s = c3.before.before.args.line.now in
-    let some : length (tokenAt s 1) ≡ 0 → ⊥ = λ e. c.before.before.if1.false (ap length c3.token.ensures ∙ e) in
-    let h : starts hash (tokenAt s 1) ≡ false = ap (starts hash) (sym c3.token.ensures) ∙ sym c.before.starts.ensures ∙ c.if2.false in
+    let some : length (token_at s 1) ≡ 0 → ⊥ = λ e. c.before.before.if1.false (ap length c3.token.ensures ∙ e) in
+    let h : starts hash (token_at s 1) ≡ false = ap (starts hash) (sym c3.token.ensures) ∙ sym c.before.starts.ensures ∙ c.if2.false in
     rw (nth-there callee s 1 some, h)
 
 pub parse-call-spec : {M : Type 1} → statement M

@@ -7,7 +7,7 @@ use mathlib.Core.Path.{◌∙◌, ◌≡◌, ap, sym}
 use Rattle.mnemonics.specs.Mnemonics.{kind_of}
 use Rattle.parser.proofs.OperandLaws.{parse-none, parse-some}
 use Rattle.parser.specs.Parse.{meaning, takes}
-use Rattle.text.specs.Tokens.{tokenAt, tokens}
+use Rattle.text.specs.Tokens.{token_at, tokens}
 use Rattle.mnemonics.specs.declared.Kind.{Kind}
 use Rattle.parser.proofs.lines.parse.Statement.{statement}
 use Rattle.parser.proofs.lines.parse.Tie as tie
@@ -42,8 +42,8 @@ returns-2 c =
     let c6 = c3.before.before.before in
     let s = c6.before.before.args.line.now in
     let some : length (tokens s) ≡ 0 → ⊥ = λ e. c3.before.before.if1.false (c6.count-tokens.ensures ∙ e) in
-    let k : c3.kind-of.result ≡ kind_of (tokenAt s 0) = c3.kind-of.ensures ∙ ap kind_of c3.before.token.ensures in
-    let t : takes (kind_of (tokenAt s 0)) (length (tokens s) - 1) ≡ true = rw (← k, ← c6.count-tokens.ensures) (sym c.before.before.takes.ensures ∙ c.before.if2.true) in
+    let k : c3.kind-of.result ≡ kind_of (token_at s 0) = c3.kind-of.ensures ∙ ap kind_of c3.before.token.ensures in
+    let t : takes (kind_of (token_at s 0)) (length (tokens s) - 1) ≡ true = rw (← k, ← c6.count-tokens.ensures) (sym c.before.before.takes.ensures ∙ c.before.if2.true) in
     c.parse-kind.ensures ∙ ap (λ (x : Kind). meaning x (tokens s)) k ∙ rw (parse-some (tokens s) some, t)
 
 returns-3 : tie.Need-returns-3
@@ -52,8 +52,8 @@ returns-3 c =
     let c7 = c3.before.before.before.before in
     let s = c7.args.line.now in
     let some : length (tokens s) ≡ 0 → ⊥ = λ e. c3.before.if1.false (c3.before.before.count-tokens.ensures ∙ e) in
-    let k : c.before.before.kind-of.result ≡ kind_of (tokenAt s 0) = c.before.before.kind-of.ensures ∙ ap kind_of c3.token.ensures in
-    let t : takes (kind_of (tokenAt s 0)) (length (tokens s) - 1) ≡ false = rw (← k, ← c3.before.before.count-tokens.ensures) (sym c.before.takes.ensures ∙ c.if2.false) in
+    let k : c.before.before.kind-of.result ≡ kind_of (token_at s 0) = c.before.before.kind-of.ensures ∙ ap kind_of c3.token.ensures in
+    let t : takes (kind_of (token_at s 0)) (length (tokens s) - 1) ≡ false = rw (← k, ← c3.before.before.count-tokens.ensures) (sym c.before.takes.ensures ∙ c.if2.false) in
     rw (parse-some (tokens s) some, t)
 
 pub parse-spec : {M : Type 1} → statement M

@@ -5,7 +5,7 @@ use mathlib.Core.Path.{◌∙◌, ◌≡◌, ap, sym}
 use Rattle.base.specs.Numbers.{number_of}
 use Rattle.base.specs.Told.{is, no}
 use Rattle.parser.proofs.OperandLaws.{one-is}
-use Rattle.parser.specs.Answers.{toldImmediate, toldRegister}
+use Rattle.parser.specs.Answers.{told_immediate, told_register}
 use Rattle.parser.specs.Operands.{hash, operand, register, starts}
 use Rattle.text.specs.Immediates.{immediate}
 use Rattle.instruction.specs.declared.Operand.TheVariants.{Imm, Reg}
@@ -31,7 +31,7 @@ returns c =
     let c7 = c3.before.before.before.before in
     let t = c7.args.token.now in
     let h : starts hash t ≡ true = sym c3.before.before.starts.ensures ∙ c3.before.if1.true in
-    let v : immediate t ≡ is c.before.v.given.0.0 = sym c3.parse-immediate.ensures ∙ ap toldImmediate c.before.v.given.1 in
+    let v : immediate t ≡ is c.before.v.given.0.0 = sym c3.parse-immediate.ensures ∙ ap told_immediate c.before.v.given.1 in
     rw h (one-is (λ n. is (Imm n)) v)
 
 returns-2 : tie.Need-returns-2
@@ -41,7 +41,7 @@ returns-2 c =
     let c7 = c3.before.before.before.before in
     let t = c7.args.token.now in
     let h : starts hash t ≡ true = sym c3.before.before.starts.ensures ∙ c3.before.if1.true in
-    let v : immediate t ≡ no (number_of c.before.v2.given.0.0) = sym c3.parse-immediate.ensures ∙ ap toldImmediate c.before.v2.given.1 in
+    let v : immediate t ≡ no (number_of c.before.v2.given.0.0) = sym c3.parse-immediate.ensures ∙ ap told_immediate c.before.v2.given.1 in
     rw (h, v)
 
 register-requires : tie.Need-register-requires
@@ -60,7 +60,7 @@ returns-3 c =
     let c7 = c3.before.before.before.before in
     let t = c7.args.token.now in
     let h : starts hash t ≡ false = sym c3.before.before.starts.ensures ∙ c3.before.if1.false in
-    let v : register t ≡ is c.before.n.given.0.0 = sym c3.register.ensures ∙ ap toldRegister c.before.n.given.1 in
+    let v : register t ≡ is c.before.n.given.0.0 = sym c3.register.ensures ∙ ap told_register c.before.n.given.1 in
     rw h (one-is (λ r. is (Reg r)) v)
 
 returns-4 : tie.Need-returns-4
@@ -70,7 +70,7 @@ returns-4 c =
     let c7 = c3.before.before.before.before in
     let t = c7.args.token.now in
     let h : starts hash t ≡ false = sym c3.before.before.starts.ensures ∙ c3.before.if1.false in
-    let v : register t ≡ no (number_of c.before.n2.given.0.0) = sym c3.register.ensures ∙ ap toldRegister c.before.n2.given.1 in
+    let v : register t ≡ no (number_of c.before.n2.given.0.0) = sym c3.register.ensures ∙ ap told_register c.before.n2.given.1 in
     rw (h, v)
 
 pub operand-spec : {M : Type 1} → statement M

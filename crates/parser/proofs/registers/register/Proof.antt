@@ -9,7 +9,7 @@ use Rattle.base.specs.Told.{Told, is, no}
 use Rattle.instruction.specs.declared.Register.{Register}
 use Rattle.mnemonics.proofs.Scans.{row-hit, row-miss, rows_end}
 use Rattle.parser.specs.declared.names.RegisterName.{RegisterName}
-use Rattle.parser.specs.Operands.{called, registerNames, registerIn, register}
+use Rattle.parser.specs.Operands.{called, register_names, register_in, register}
 use Rattle.parser.proofs.RegisterLaws.{no_row, at-most-five, eight}
 use borrow.Author.Rules.{rules}
 use Rattle.parser.proofs.registers.register.Statement.{statement}
@@ -19,7 +19,7 @@ abbrev told : RegisterName → Told Register
 told r = is r.register
 
 abbrev invariant-loop : tie.invariant-loop
-invariant-loop token t i₀ i = (i ≤ 8) × (registerIn (drop i registerNames) token ≡ register token)
+invariant-loop token t i₀ i = (i ≤ 8) × (register_in (drop i register_names) token ≡ register token)
 
 abbrev decreases-loop : tie.decreases-loop
 decreases-loop token t i₀ i = 8 - i
@@ -49,9 +49,9 @@ returns c =
     let token = h.before.before.before.args.token.now in
     let i = h.loop.i in
     let q = h.before.register-names.ensures in
-    let e : called token (get_or registerNames i no_row) ≡ true =
+    let e : called token (get_or register_names i no_row) ≡ true =
     ap (λ (t : List RegisterName). called token (get_or t i no_row)) (sym q) ∙ sym c.before.is-called.ensures ∙ c.if1.true in
-    ap (λ (t : List RegisterName). told (get_or t i no_row)) q ∙ sym (row-hit (called token) told (no 20) registerNames no_row i (omega (arith, eight)) e) ∙ h.loop.invariant.1
+    ap (λ (t : List RegisterName). told (get_or t i no_row)) q ∙ sym (row-hit (called token) told (no 20) register_names no_row i (omega (arith, eight)) e) ∙ h.loop.invariant.1
 
 add-i : tie.Need-overflow-add-i invariant-loop decreases-loop
 add-i c = search rules
@@ -65,14 +65,14 @@ loop-again c =
     let token = h.before.before.before.args.token.now in
     let i = h.loop.i in
     let q = h.before.register-names.ensures in
-    let e : called token (get_or registerNames i no_row) ≡ false =
+    let e : called token (get_or register_names i no_row) ≡ false =
     ap (λ (t : List RegisterName). called token (get_or t i no_row)) (sym q) ∙ sym c.before.is-called.ensures ∙ c.if1.false in
-    (search rules, sym (row-miss (called token) told (no 20) registerNames no_row i (omega (arith, eight)) e) ∙ h.loop.invariant.1)
+    (search rules, sym (row-miss (called token) told (no 20) register_names no_row i (omega (arith, eight)) e) ∙ h.loop.invariant.1)
 
 returns-2 : tie.Need-returns-2 invariant-loop decreases-loop
 returns-2 c =
     let h = c.before in
-    sym (rows_end (called h.before.before.before.args.token.now) told (no 20) registerNames no_row h.loop.i (omega (arith, eight))) ∙ h.loop.invariant.1
+    sym (rows_end (called h.before.before.before.args.token.now) told (no 20) register_names no_row h.loop.i (omega (arith, eight))) ∙ h.loop.invariant.1
 
 pub register-spec : {M : Type 1} → statement M
 register-spec =

@@ -1,5 +1,5 @@
 -- Each arm adds the definition's name of what the arm was taken for. Assumes nothing.
-use Rattle.printer.specs.Text.{arithName}
+use Rattle.printer.specs.Text.{arith_name}
 use borrow.Author.Rules.{rules}
 use Rattle.printer.proofs.names.arith_name.Statement.{statement}
 use Rattle.printer.proofs.names.arith_name.Tie as tie
@@ -41,19 +41,19 @@ add-requires-4 : tie.Need-add-requires-4
 add-requires-4 c κs = search rules
 
 returns : tie.Need-returns
-unfolding arithName
+unfolding arith_name
 returns c = rw c.before.before.enum_told.given.1 c.add.ensures
 
 returns-2 : tie.Need-returns-2
-unfolding arithName
+unfolding arith_name
 returns-2 c = rw c.before.before.enum-told2.given.1 c.add2.ensures
 
 returns-3 : tie.Need-returns-3
-unfolding arithName
+unfolding arith_name
 returns-3 c = rw c.before.before.enum-told3.given.1 c.add3.ensures
 
 returns-4 : tie.Need-returns-4
-unfolding arithName
+unfolding arith_name
 returns-4 c = rw c.before.before.enum-told4.given.1 c.add4.ensures
 
 pub arith-name-spec : {M : Type 1} → statement M

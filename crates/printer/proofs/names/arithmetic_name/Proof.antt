@@ -1,5 +1,5 @@
 -- Each arm adds the definition's name of what the arm was taken for. Assumes nothing.
-use Rattle.printer.specs.Text.{arithmeticName}
+use Rattle.printer.specs.Text.{arithmetic_name}
 use borrow.Author.Rules.{rules}
 use Rattle.printer.proofs.names.arithmetic_name.Statement.{statement}
 use Rattle.printer.proofs.names.arithmetic_name.Tie as tie
@@ -68,31 +68,31 @@ add-requires-7 : tie.Need-add-requires-7
 add-requires-7 c κs = search rules
 
 returns : tie.Need-returns
-unfolding arithmeticName
+unfolding arithmetic_name
 returns c = rw c.before.before.enum_told.given.1 c.add.ensures
 
 returns-2 : tie.Need-returns-2
-unfolding arithmeticName
+unfolding arithmetic_name
 returns-2 c = rw c.before.before.enum-told2.given.1 c.add2.ensures
 
 returns-3 : tie.Need-returns-3
-unfolding arithmeticName
+unfolding arithmetic_name
 returns-3 c = rw c.before.before.enum-told3.given.1 c.add3.ensures
 
 returns-4 : tie.Need-returns-4
-unfolding arithmeticName
+unfolding arithmetic_name
 returns-4 c = rw c.before.before.enum-told4.given.1 c.add4.ensures
 
 returns-5 : tie.Need-returns-5
-unfolding arithmeticName
+unfolding arithmetic_name
 returns-5 c = rw c.before.before.enum-told5.given.1 c.add5.ensures
 
 returns-6 : tie.Need-returns-6
-unfolding arithmeticName
+unfolding arithmetic_name
 returns-6 c = rw c.before.before.enum-told6.given.1 c.add6.ensures
 
 returns-7 : tie.Need-returns-7
-unfolding arithmeticName
+unfolding arithmetic_name
 returns-7 c = rw c.before.before.enum-told7.given.1 c.add7.ensures
 
 pub arithmetic-name-spec : {M : Type 1} → statement M

@@ -1,5 +1,5 @@
 -- Each arm adds the definition's name of what the arm was taken for. Assumes nothing.
-use Rattle.printer.specs.Text.{registerName}
+use Rattle.printer.specs.Text.{register_name}
 use borrow.Author.Rules.{rules}
 use Rattle.printer.proofs.names.register.Statement.{statement}
 use Rattle.printer.proofs.names.register.Tie as tie
@@ -77,35 +77,35 @@ add-requires-8 : tie.Need-add-requires-8
 add-requires-8 c κs = search rules
 
 returns : tie.Need-returns
-unfolding registerName
+unfolding register_name
 returns c = rw c.before.before.enum_told.given.1 c.add.ensures
 
 returns-2 : tie.Need-returns-2
-unfolding registerName
+unfolding register_name
 returns-2 c = rw c.before.before.enum-told2.given.1 c.add2.ensures
 
 returns-3 : tie.Need-returns-3
-unfolding registerName
+unfolding register_name
 returns-3 c = rw c.before.before.enum-told3.given.1 c.add3.ensures
 
 returns-4 : tie.Need-returns-4
-unfolding registerName
+unfolding register_name
 returns-4 c = rw c.before.before.enum-told4.given.1 c.add4.ensures
 
 returns-5 : tie.Need-returns-5
-unfolding registerName
+unfolding register_name
 returns-5 c = rw c.before.before.enum-told5.given.1 c.add5.ensures
 
 returns-6 : tie.Need-returns-6
-unfolding registerName
+unfolding register_name
 returns-6 c = rw c.before.before.enum-told6.given.1 c.add6.ensures
 
 returns-7 : tie.Need-returns-7
-unfolding registerName
+unfolding register_name
 returns-7 c = rw c.before.before.enum-told7.given.1 c.add7.ensures
 
 returns-8 : tie.Need-returns-8
-unfolding registerName
+unfolding register_name
 returns-8 c = rw c.before.before.enum-told8.given.1 c.add8.ensures
 
 pub register-spec : {M : Type 1} → statement M

@@ -1,5 +1,5 @@
 -- Each branch adds the definition's name of its case. Assumes nothing.
-use Rattle.printer.specs.Text.{shiftName}
+use Rattle.printer.specs.Text.{shift_name}
 use borrow.Author.Rules.{rules}
 use Rattle.printer.proofs.names.shift_name.Statement.{statement}
 use Rattle.printer.proofs.names.shift_name.Tie as tie
@@ -11,7 +11,7 @@ add-requires : tie.Need-add-requires
 add-requires c κs = search rules
 
 returns : tie.Need-returns
-unfolding shiftName
+unfolding shift_name
 returns c = rw c.before.before.if1.true c.add.ensures
 
 slice-aggregate-add-2 : tie.Need-slice-aggregate-add-2
@@ -21,7 +21,7 @@ add-requires-2 : tie.Need-add-requires-2
 add-requires-2 c κs = search rules
 
 returns-2 : tie.Need-returns-2
-unfolding shiftName
+unfolding shift_name
 returns-2 c = rw c.before.before.if1.false c.add2.ensures
 
 pub shift-name-spec : {M : Type 1} → statement M

@@ -1,5 +1,5 @@
 -- Each arm adds the text of what the operand was found to be. Assumes nothing.
-use Rattle.printer.specs.Text.{operandOf}
+use Rattle.printer.specs.Text.{operand_of}
 use borrow.Author.Rules.{rules}
 use Rattle.printer.proofs.operands.operand.Statement.{statement}
 use Rattle.printer.proofs.operands.operand.Tie as tie
@@ -17,11 +17,11 @@ immediate-requires : tie.Need-immediate-requires
 immediate-requires c κs = search rules
 
 returns : tie.Need-returns
-unfolding operandOf
+unfolding operand_of
 returns c = rw c.before.before.o.given.1 c.register.ensures
 
 returns-2 : tie.Need-returns-2
-unfolding operandOf
+unfolding operand_of
 returns-2 c = rw c.before.before.o2.given.1 c.immediate.ensures
 
 pub operand-spec : {M : Type 1} → statement M

@@ -3,7 +3,7 @@ use mathlib.Core.Path.{sym, ap, ◌∙◌}
 use Prim.Native.Nat.{◌+◌, ◌<◌}
 use native.Mathlib.Omega.{arith}
 use lib.ListN.{length}
-use Rattle.printer.specs.Text.{textIn}
+use Rattle.printer.specs.Text.{text_in}
 use Rattle.printer.proofs.Laws.{text-length, next-19, buffer-19}
 use Rattle.printer.proofs.PrintLaws.{line-text, line-fits}
 use borrow.Author.Rules.{rules}
@@ -16,7 +16,7 @@ line-of-requires c κs = search rules
 returns : tie.Need-returns
 returns c =
     let s = c.before.before.before.before in
-    let h : length s.args.out.now < s.args.at + length (textIn s.args.e s.args.i) = omega arith in
+    let h : length s.args.out.now < s.args.at + length (text_in s.args.e s.args.i) = omega arith in
     (sym (next-19 s.args.e s.args.i s.args.at _ h), sym (buffer-19 s.args.e s.args.i s.args.at s.args.out.now h))
 
 sub-if2 : tie.Need-overflow-sub-if2
@@ -26,7 +26,7 @@ returns-2 : tie.Need-returns-2
 returns-2 c =
     let s = c.before.before.before.before.before in
     let t = line-text s.args.e s.args.i c.before.before.before.Line-of.result c.before.before.before.Line-of.ensures in
-    let h : length s.args.out.now < s.args.at + length (textIn s.args.e s.args.i) = omega (arith, t.size) in
+    let h : length s.args.out.now < s.args.at + length (text_in s.args.e s.args.i) = omega (arith, t.size) in
     (sym (next-19 s.args.e s.args.i s.args.at _ h), sym (buffer-19 s.args.e s.args.i s.args.at s.args.out.now h))
 
 array-share-prefix-bytes : tie.Need-array-share-prefix-bytes

@@ -4,7 +4,7 @@ use lib.ListN.{length}
 use Rattle.base.specs.Told.{is, no}
 use Rattle.base.specs.Numbers.{number_of}
 use Rattle.instruction.specs.Decode.{decode, told}
-use Rattle.printer.proofs.Laws.{word_next, word-buffer, none-next, none-buffer}
+use Rattle.printer.proofs.Laws.{word-next, word-buffer, none-next, none-buffer}
 use borrow.Author.Rules.{rules}
 use Rattle.printer.proofs.prints.print_word.Statement.{statement}
 use Rattle.printer.proofs.prints.print_word.Tie as tie
@@ -31,7 +31,7 @@ returns c =
     let i = d.d.given.0.0 in
     let e : decode s.args.w ≡ is i = sym d.before.before.decode.ensures ∙ ap told d.d.given.1 in
     let p = c.before.before.print.ensures in
-    (p.0 ∙ word_next s.args.w i e (length s.args.out.now), p.1 ∙ word-buffer s.args.w i e s.args.out.now)
+    (p.0 ∙ word-next s.args.w i e (length s.args.out.now), p.1 ∙ word-buffer s.args.w i e s.args.out.now)
 
 returns-2 : tie.Need-returns-2
 returns-2 c =

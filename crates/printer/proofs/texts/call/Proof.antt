@@ -1,5 +1,5 @@
 -- The pieces are the definition's, in its order. Assumes nothing.
-use Rattle.printer.specs.Text.{callText}
+use Rattle.printer.specs.Text.{call_text}
 use Rattle.printer.proofs.LineLaws.{joined}
 use borrow.Author.Rules.{rules}
 use Rattle.printer.proofs.texts.call.Statement.{statement}
@@ -12,7 +12,7 @@ add-requires : tie.Need-add-requires
 add-requires c κs = search rules
 
 returns : tie.Need-returns
-unfolding callText
+unfolding call_text
 returns c = rw c.before.before.if1.true c.add.ensures
 
 slice-aggregate-add-2 : tie.Need-slice-aggregate-add-2
@@ -25,7 +25,7 @@ one-requires : tie.Need-one-requires
 one-requires c κs = search rules
 
 returns-2 : tie.Need-returns-2
-unfolding callText
+unfolding call_text
 returns-2 c = rw (c.before.before.before.if1.false, c.one.ensures, c.before.add2.ensures, joined)
 
 pub call-spec : {M : Type 1} → statement M

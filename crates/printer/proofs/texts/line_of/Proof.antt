@@ -1,5 +1,5 @@
 -- Each arm adds the name and the operands of the instruction that the arm was taken for. Assumes nothing.
-use Rattle.printer.specs.Text.{textIn}
+use Rattle.printer.specs.Text.{text_in}
 use Rattle.printer.proofs.LineLaws.{joined}
 use borrow.Author.Rules.{rules}
 use Rattle.printer.proofs.texts.line_of.Statement.{statement}
@@ -126,51 +126,51 @@ call-requires : tie.Need-call-requires
 call-requires c κs = search rules
 
 returns : tie.Need-returns
-unfolding textIn
+unfolding text_in
 returns c = rw (c.before.before.enum_told.given.1, ← c.before.before.before.before.empty.ensures) c.add.ensures
 
 returns-2 : tie.Need-returns-2
-unfolding textIn
+unfolding text_in
 returns-2 c = rw (c.before.before.before.before.i.given.1, ← c.before.before.before.before.before.before.empty.ensures, c.pair.ensures, c.before.add2.ensures, joined)
 
 returns-3 : tie.Need-returns-3
-unfolding textIn
+unfolding text_in
 returns-3 c = rw (c.before.before.before.i2.given.1, ← c.before.before.before.before.before.empty.ensures, c.turned.ensures, c.before.shift-name.ensures, joined)
 
 returns-4 : tie.Need-returns-4
-unfolding textIn
+unfolding text_in
 returns-4 c = rw (c.before.before.before.i3.given.1, ← c.before.before.before.before.before.empty.ensures, c.pair2.ensures, c.before.arith-name.ensures, joined)
 
 returns-5 : tie.Need-returns-5
-unfolding textIn
+unfolding text_in
 returns-5 c = rw (c.before.before.before.i4.given.1, ← c.before.before.before.before.before.empty.ensures, c.three.ensures, c.before.arithmetic-name.ensures, joined)
 
 returns-6 : tie.Need-returns-6
-unfolding textIn
+unfolding text_in
 returns-6 c = rw (c.before.before.before.i5.given.1, ← c.before.before.before.before.before.empty.ensures, c.addressed.ensures, c.before.word-name.ensures, joined)
 
 returns-7 : tie.Need-returns-7
-unfolding textIn
+unfolding text_in
 returns-7 c = rw (c.before.before.before.i6.given.1, ← c.before.before.before.before.before.empty.ensures, c.addressed2.ensures, c.before.byte-name.ensures, joined)
 
 returns-8 : tie.Need-returns-8
-unfolding textIn
+unfolding text_in
 returns-8 c = rw (c.before.before.before.before.i7.given.1, ← c.before.before.before.before.before.before.empty.ensures, c.pair3.ensures, c.before.add3.ensures, joined)
 
 returns-9 : tie.Need-returns-9
-unfolding textIn
+unfolding text_in
 returns-9 c = rw (c.before.before.before.before.i8.given.1, ← c.before.before.before.before.before.before.empty.ensures, c.one.ensures, c.before.add4.ensures, joined)
 
 returns-10 : tie.Need-returns-10
-unfolding textIn
+unfolding text_in
 returns-10 c = rw (c.before.before.before.before.i9.given.1, ← c.before.before.before.before.before.before.empty.ensures, c.one2.ensures, c.before.add5.ensures, joined)
 
 returns-11 : tie.Need-returns-11
-unfolding textIn
+unfolding text_in
 returns-11 c = rw (c.before.before.before.i10.given.1, ← c.before.before.before.before.before.empty.ensures, c.pair4.ensures, c.before.compare-name.ensures, joined)
 
 returns-12 : tie.Need-returns-12
-unfolding textIn
+unfolding text_in
 returns-12 c = rw (c.before.before.i11.given.1, ← c.before.before.before.before.empty.ensures) c.call.ensures
 
 pub line-of-spec : {M : Type 1} → statement M

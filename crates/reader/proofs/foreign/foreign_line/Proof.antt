@@ -40,10 +40,10 @@ use denote.Exit.{yes}
 use denote.Triple.Clauses.{closing}
 use Rattle.reader.proofs.Apart.{B, Own as OwnedBy, Token, twice, hands}
 use Rattle.reader.proofs.Told.{Promise, promised, Told, calls-told}
-use Rattle.reader.proofs.Search.{Place, start, next, Nearer, Nearer-wf, next-nearer, line-fits, found}
-use Rattle.reader.specs.Reader.{afterLine, cleanAt, numbered}
+use Rattle.reader.proofs.Search.{Place, start, next, Nearer, NearerWf, next-nearer, line-fits, found}
+use Rattle.reader.specs.Reader.{after_line, clean_at, numbered}
 use Rattle.reader.specs.declared.LineReader.{LineReader}
-use Rattle.text.specs.Lines.{foreignLine}
+use Rattle.text.specs.Lines.{foreign_line}
 use Rattle.reader.specs.contracts.LineReader as T
 use Rattle.reader.proofs.LineReader.TheLaws as T'
 use Rattle.reader.specs.contracts.new as new
@@ -93,16 +93,16 @@ module _ {M : Type 1} {𝓤 : Ura M} {𝓛 : Logic 𝓤} {K : Type 0} {Γ : List
 
 -- what is promised, and what the callees promise
 abbrev finds : Promise foreign.ended
-finds κs a r = r ≡ foreignLine 1 a.0.now
+finds κs a r = r ≡ foreign_line 1 a.0.now
 
 abbrev starts : Promise new.ended
 starts κs a r = (r.text ≡ a.0) × (r.at ≡ 0)
 
 abbrev cleans : Promise clean.ended
-cleans κs a t = t ≡ cleanAt a.0.text.now a.0.at
+cleans κs a t = t ≡ clean_at a.0.text.now a.0.at
 
 abbrev moves : Promise after.ended
-moves κs a r = (r.text ≡ a.0.text) × (r.at ≡ afterLine a.0.text.now a.0.at)
+moves κs a r = (r.text ≡ a.0.text) × (r.at ≡ after_line a.0.text.now a.0.at)
 
 abbrev stands : Promise more.ended
 stands κs a t = t ≡ ltb a.0.at (length a.0.text.now)
@@ -165,7 +165,7 @@ module _ {M : Type 1} {𝓤 : Ura M} (𝓛 : Logic 𝓤) (κ : Lft) (q : Share) 
       qed 𝓛 [] ∵ nothing ! $ owned ! usize (Is usize) (uint_Makes 𝓛 w64) n (vint w64 n ∷ []) (refl, fits) $ fjoin ! $
       owned ! bool (Is bool) (bool_Makes 𝓛) t (vbool t ∷ []) refl $ fjoin ! $ nothing ! $ join ! $ frame ! $ done !
 
-  exits : (r : ℕ) (u : Val) → r ≡ foreignLine 1 s.now → ent 𝓤 (⋆ 𝓛 (‵ (usize.own_val r (u ∷ [])) ∷ Alive ∷ ‵ Own ∷ [])) (Post u)
+  exits : (r : ℕ) (u : Val) → r ≡ foreign_line 1 s.now → ent 𝓤 (⋆ 𝓛 (‵ (usize.own_val r (u ∷ [])) ∷ Alive ∷ ‵ Own ∷ [])) (Post u)
   exits r u e =
       qed 𝓛 (‵ (usize.own_val r (u ∷ [])) ∷ Alive ∷ ‵ Own ∷ []) ∵
       suffices ! _ (ends_at 𝓛 foreign.ended stayed (promised foreign.ended 𝓤 finds) (((κ, tt), (q, tt), tt, (s, tt), (v ∷ [], tt)), tt) u r (tt, tt) (tt, tt)) $ says ! e $
@@ -207,14 +207,14 @@ module _ {M : Type 1} {𝓤 : Ura M} (𝓛 : Logic 𝓤) (κ : Lft) (q : Share) 
     -- it has asked whether the line is clean
     abbrev Asked : Place s.now → List (Item 𝓤)
     Asked p = ‵ (Held p.at) ∷ Alive ∷ ‵ Own ∷ ‵ (froom reader l₈ 0) ∷ ‵ (fdies reader l₈) ∷ ‵ (froom ty_bool l₇ 0) ∷ ‵ (fdies ty_bool l₇) ∷ ‵ (froom reader l₆ 0) ∷ ‵ (fdies reader l₆)
-        ∷ ‵ (fat full_share reader l₅ 0 (mach p.at)) ∷ ‵ (fdies reader l₅) ∷ ‵ (fat full_share ty_bool l₄ 0 (vbool (cleanAt s.now p.at))) ∷ ‵ (fdies ty_bool l₄) ∷ Kept p.at p.line
+        ∷ ‵ (fat full_share reader l₅ 0 (mach p.at)) ∷ ‵ (fdies reader l₅) ∷ ‵ (fat full_share ty_bool l₄ 0 (vbool (clean_at s.now p.at))) ∷ ‵ (fdies ty_bool l₄) ∷ Kept p.at p.line
 
     -- a turn's postcondition: it ends nearer to the text's end, or the loop is left and the rest of the body runs
     abbrev Turned : Place s.now → Out → SProp 𝓤
     Turned p = after_turn 𝓤 H (Below 𝓛 (Nearer s.now) At p) (after_block 𝓤 H (after_seq 𝓤 H (Wp 𝓤 H C Λ En parts.t-4 (at_return 𝓤 H En Post)) (at_return 𝓤 H En Post)))
 
     -- no clean line is there: whether there is one at all says which number is returned
-    leaves : (p : Place s.now) → cleanAt s.now p.at ≡ false → ent 𝓤 (⋆ 𝓛 (Asked p)) (Wp 𝓤 H C Λ En parts.t-4 (at_return 𝓤 H En Post))
+    leaves : (p : Place s.now) → clean_at s.now p.at ≡ false → ent 𝓤 (⋆ 𝓛 (Asked p)) (Wp 𝓤 H C Λ En parts.t-4 (at_return 𝓤 H En Post))
     leaves p e =
         qed 𝓛 (Asked p) ∵ exec ! C Λ En parts.t-4 (at_ret En Post) $
         peeks ! (B (κ, tt)) (Is (B (κ, tt))) (shows 𝓛 (B (κ, tt))) (R p.at) (mach p.at ∷ []) (λ is.
@@ -241,13 +241,13 @@ module _ {M : Type 1} {𝓤 : Ura M} (𝓛 : Logic 𝓤) (κ : Lft) (q : Share) 
         hands 𝓛 κ q (R p.at) (clean.signature).result cleans ! fm known-clean (and_then ! (load ! (from ! (stop !)) (look ! 9 refl)) (no_more !)) (λ t u is-clean is-t.
         -- [whether it is clean; the token; what the reader owns; what s owns; room for _8; …; room for _7; …; room for _6; …; _5; …; room for _4; …; _3; …; _2; …; _1; …; room for _0; …]
         land ! (from ! (stop !)) (init ! 12 refl ((bool_Lawful 𝓛).typed t _ is-t).0) $ rewrite ! 12 (λ (w : Val). ‵ (fat full_share ty_bool l₄ 0 w)) (ap only is-t ∙ ap vbool is-clean) refl $ drop ! $ move ! (1 ∷ 0 ∷ []) $
-        tests ! (cleanAt s.now p.at) (load ! (from ! (stop !)) (look ! 11 refl))
+        tests ! (clean_at s.now p.at) (load ! (from ! (stop !)) (look ! 11 refl))
         (λ e. assigns ! (of_opd ! (load ! (from ! (stop !)) (look ! 15 refl))) (from ! (stop !)) (init ! 7 refl (typed (R p.at) _ is)) $
         hands 𝓛 κ q (R p.at) (after.signature).result moves ! fm known-after (and_then ! (load ! (from ! (stop !)) (look ! 6 refl)) (no_more !)) (λ r w moved is-r.
         -- [what the new reader owns; the token; what s owns; the locals as before]
         land ! (from ! (stop !)) (store ! 15 refl (typed r _ is-r)) $
-        rewrite ! 15 (λ (x : Val). ‵ (fat full_share reader l₂ 0 x)) (is-lowered r w is-r ∙ ap T'.lowered (is-reader r (afterLine s.now p.at) moved)) refl $
-        rewrite ! 0 (λ (x : Val). ‵ ((B (κ, tt)).own_val r (x ∷ []))) (is-lowered r w is-r) refl $ rewrite ! 0 (λ (x : LineReader). ‵ ((B (κ, tt)).own_val x (T'.lowered x ∷ []))) (is-reader r (afterLine s.now p.at) moved) refl $
+        rewrite ! 15 (λ (x : Val). ‵ (fat full_share reader l₂ 0 x)) (is-lowered r w is-r ∙ ap T'.lowered (is-reader r (after_line s.now p.at) moved)) refl $
+        rewrite ! 0 (λ (x : Val). ‵ ((B (κ, tt)).own_val r (x ∷ []))) (is-lowered r w is-r) refl $ rewrite ! 0 (λ (x : LineReader). ‵ ((B (κ, tt)).own_val x (T'.lowered x ∷ []))) (is-reader r (after_line s.now p.at) moved) refl $
         assigns_last ! (bin ! (load ! (from ! (stop !)) (look ! 13 refl)) (lit ! tt) (record { fits = line-fits s.now short p })) (from ! (stop !)) (store ! 13 refl (tt, record { fits = line-fits s.now short p })) $
         forget ! 7 refl $ forget ! 9 refl $ forget ! 11 refl $ again ! (Nearer s.now) At p (next s.now p e) (next-nearer s.now p e)))
         (λ e. by ! (leaves p e))))
@@ -267,7 +267,7 @@ module _ {M : Type 1} {𝓤 : Ura M} (𝓛 : Logic 𝓤) (κ : Lft) (q : Share) 
       rewrite ! 15 (λ (x : Val). ‵ (fat full_share (T'.mir erased) l₂ 0 x)) (is-lowered r u is-r ∙ ap T'.lowered (is-reader r 0 made)) refl $
       rewrite ! 0 (λ (x : Val). ‵ ((B (κ, tt)).own_val r (x ∷ []))) (is-lowered r u is-r) refl $ rewrite ! 0 (λ (x : LineReader). ‵ ((B (κ, tt)).own_val x (T'.lowered x ∷ []))) (is-reader r 0 made) refl $
       assigns ! (of_opd ! (lit ! tt)) (from ! (stop !)) (init ! 13 refl (tt, record { fits = lit< tt })) $ first ! $ blocks ! $
-      loops ! 𝓣 (Nearer s.now) (Nearer-wf s.now) (At 𝓣 (bytes is-s) known-clean known-after known_more known-number l₀ l₁ l₂ l₃ l₄ l₅ l₆ l₇ l₈)
+      loops ! 𝓣 (Nearer s.now) (NearerWf s.now) (At 𝓣 (bytes is-s) known-clean known-after known_more known-number l₀ l₁ l₂ l₃ l₄ l₅ l₆ l₇ l₈)
       (turns 𝓣 (bytes is-s) known-clean known-after known_more known-number l₀ l₁ l₂ l₃ l₄ l₅ l₆ l₇ l₈) (start s.now)))))))))))
     where
       bytes : Is (ShrSlice (named 0) κ u8) s (v ∷ []) → length s.now < 2 ^ 63

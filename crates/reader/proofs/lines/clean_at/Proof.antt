@@ -2,7 +2,7 @@
 use borrow.Author.Rules.{rules}
 use mathlib.Core.Path.{◌∙◌, ap}
 use Rattle.reader.proofs.LineLaws.{clean-none, clean-some}
-use Rattle.reader.specs.Reader.{isAscii}
+use Rattle.reader.specs.Reader.{is_ascii}
 use Rattle.reader.proofs.lines.clean_at.Statement.{statement}
 use Rattle.reader.proofs.lines.clean_at.Tie as tie
 
@@ -15,7 +15,7 @@ is-ascii-requires c κs = search rules
 returns : tie.Need-returns
 returns c =
     let s = c.before.before.before.before.args in
-    c.is_ascii.ensures ∙ ap isAscii c.before.line-at.ensures ∙ clean-some s.s.now s.at c.before.before.if1.true
+    c.is_ascii.ensures ∙ ap is_ascii c.before.line-at.ensures ∙ clean-some s.s.now s.at c.before.before.if1.true
 
 returns-2 : tie.Need-returns-2
 returns-2 c =

@@ -4,12 +4,12 @@ use borrow.Author.Rules.{rules}
 use lib.ListN.{drop, length}
 use mathlib.Core.Path.{◌∙◌, ◌≡◌, sym}
 use Rattle.reader.proofs.LineLaws.{ascii-end, ascii-next, ascii-not}
-use Rattle.reader.specs.Reader.{isAscii}
+use Rattle.reader.specs.Reader.{is_ascii}
 use Rattle.reader.proofs.lines.is_ascii.Statement.{statement}
 use Rattle.reader.proofs.lines.is_ascii.Tie as tie
 
 abbrev invariant-loop : tie.invariant-loop
-invariant-loop s i₀ i = (i ≤ length s) × (isAscii (drop i s) ≡ isAscii s)
+invariant-loop s i₀ i = (i ≤ length s) × (is_ascii (drop i s) ≡ is_ascii s)
 
 abbrev decreases-loop : tie.decreases-loop
 decreases-loop s i₀ i = length s - i

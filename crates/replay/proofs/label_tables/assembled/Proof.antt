@@ -274,12 +274,12 @@ module _ {M : Type 1} {𝓤 : Ura M} (𝓛 : Logic 𝓤) (mem : Memory → SProp
     asks-unpack =
         qed 𝓛 (unpacking β ∷ ‵ (owns (ShrSlice (named 0) (β ∷ []) T.the_row ∷ MutSlice (named 1) κ₂ usize ∷ MutSlice (named 2) κ₃ usize ∷ MutSlice (named 3) κ₄ u16 ∷ []) passed₂ vals₂) ∷ []) ∵ join ! $ frame ! $ done !
 
-    abbrev Given-it : List (Item 𝓤)
-    Given-it = ‵ Shown ∷ ‵ (flft (β ∷ []) full_share) ∷ ‵ (flft κ₂ q₂) ∷ ‵ (flft κ₃ q₃) ∷ ‵ (flft κ₄ q₄) ∷ ‵ Plc ∷ ‵ Len ∷ ‵ Adr ∷ []
+    abbrev GivenIt : List (Item 𝓤)
+    GivenIt = ‵ Shown ∷ ‵ (flft (β ∷ []) full_share) ∷ ‵ (flft κ₂ q₂) ∷ ‵ (flft κ₃ q₃) ∷ ‵ (flft κ₄ q₄) ∷ ‵ Plc ∷ ‵ Len ∷ ‵ Adr ∷ []
 
-    goes-unpack : ent 𝓤 (⋆ 𝓛 Given-it) ((Unpacks 𝓛 mem run).pre to-unpack)
+    goes-unpack : ent 𝓤 (⋆ 𝓛 GivenIt) ((Unpacks 𝓛 mem run).pre to-unpack)
     goes-unpack =
-        qed 𝓛 Given-it ∵ nothing ! $ move ! (8 ∷ 0 ∷ []) $ fjoin ! $ move ! (7 ∷ 0 ∷ []) $ fjoin ! $ move ! (6 ∷ 0 ∷ []) $ fjoin ! $ move ! (1 ∷ 0 ∷ []) $ fjoin ! $
+        qed 𝓛 GivenIt ∵ nothing ! $ move ! (8 ∷ 0 ∷ []) $ fjoin ! $ move ! (7 ∷ 0 ∷ []) $ fjoin ! $ move ! (6 ∷ 0 ∷ []) $ fjoin ! $ move ! (1 ∷ 0 ∷ []) $ fjoin ! $
         -- [what the callee is passed; the four tokens]
         nothing ! $ move ! (5 ∷ 0 ∷ []) $ join ! $ move ! (4 ∷ 0 ∷ []) $ join ! $ move ! (3 ∷ 0 ∷ []) $ join ! $ move ! (2 ∷ 0 ∷ []) $ join ! $ use2 𝓛 (raw ((Unpacks 𝓛 mem run).pre to-unpack)) asks-unpack $ done !
 
@@ -308,13 +308,13 @@ module _ {M : Type 1} {𝓤 : Ura M} (𝓛 : Logic 𝓤) (mem : Memory → SProp
     abbrev values : List Val
     values = ruled ∷ v text ∷ v words ∷ vint w64 labels ∷ v places ∷ v lengths ∷ v addresses ∷ []
 
-    abbrev Owned-all : List (Item 𝓤)
-    Owned-all = ‵ (flft κ₀ q₀) ∷ ‵ (flft κ₁ q₁) ∷ ‵ (flft κ₂ q₂) ∷ ‵ (flft κ₃ q₃) ∷ ‵ (flft κ₄ q₄) ∷ ‵ Txt ∷ ‵ Wrd ∷ ‵ Plc ∷ ‵ Len ∷ ‵ Adr ∷ []
+    abbrev OwnedAll : List (Item 𝓤)
+    OwnedAll = ‵ (flft κ₀ q₀) ∷ ‵ (flft κ₁ q₁) ∷ ‵ (flft κ₂ q₂) ∷ ‵ (flft κ₃ q₃) ∷ ‵ (flft κ₄ q₄) ∷ ‵ Txt ∷ ‵ Wrd ∷ ‵ Plc ∷ ‵ Len ∷ ‵ Adr ∷ []
 
     module _ (C : Calls 𝓤 H) (Λ : Loops 𝓤 H) (fm : FmC 𝓤 H 𝓛.laws C) (known-assemble : Triple 𝓤 (C #assemble) (Assembles 𝓛 mem run)) (known-unpack : Triple 𝓤 (C #unpack) (Unpacks 𝓛 mem run)) where
-      runs-it : ent 𝓤 (⋆ 𝓛 Owned-all) (WpFn 𝓤 H C Λ code.function values Post)
+      runs-it : ent 𝓤 (⋆ 𝓛 OwnedAll) (WpFn 𝓤 H C Λ code.function values Post)
       runs-it =
-          qed 𝓛 Owned-all ∵ enter ! C Λ code.function values Post $
+          qed 𝓛 OwnedAll ∵ enter ! C Λ code.function values Post $
           alloc1 ! (λ l₀. alloc1 ! (λ l₁. alloc1 ! (λ l₂. alloc1 ! (λ l₃. alloc1 ! (λ l₄. alloc1 ! (λ l₅. alloc1 ! (λ l₆. alloc1 ! (λ l₇. alloc1 ! (λ l₈. alloc1 ! (λ l₉. alloc1 ! (λ l₁₀. alloc1 ! (λ l₁₁. alloc1 ! (λ l₁₂. alloc1 ! (λ l₁₃. alloc1 ! (λ l₁₄. alloc1 ! (λ l₁₅. alloc1 ! (λ l₁₆. alloc1 ! (λ l₁₇. alloc1 ! (λ l₁₈. alloc1 ! (λ l₁₉. alloc1 ! (λ l₂₀. alloc1 ! (λ l₂₁. alloc1 ! (λ l₂₂. alloc1 ! (λ l₂₃. alloc0 ! $ params1 ! $
           pass1 ! (init ! 44 refl (typed-rules gr)) $ pass1 ! (init ! 42 refl (tt, (tt, (record { fits = gx.0 }, tt)))) $ pass1 ! (init ! 40 refl (tt, (tt, (record { fits = gw.0 }, tt)))) $ pass1 ! (init ! 38 refl (tt, record { fits = gl })) $ pass1 ! (init ! 36 refl (tt, (tt, (record { fits = gp.0 }, tt)))) $ pass1 ! (init ! 34 refl (tt, (tt, (record { fits = gn.0 }, tt)))) $ pass1 ! (init ! 32 refl (tt, (tt, (record { fits = ga.0 }, tt)))) $ pass0 ! $
           -- [_23; …; _0; …; the tokens; the text; the words; the three arrays]

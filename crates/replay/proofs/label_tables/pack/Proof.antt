@@ -154,15 +154,15 @@ module _ {M : Type 1} {𝓤 : Ura M} (𝓛 : Logic 𝓤) (mem : Memory → SProp
   abbrev Table : List Label → Fml
   Table zs = Owned T.the_row tb κ zs
 
-  abbrev Holds-on : List Label → List (Item 𝓤) → List (Item 𝓤)
-  Holds-on zs Γ = Tokens ∷ ‵ Arrays ∷ ‵ (Table zs) ∷ ‵ (flft κ q) ∷ Γ
+  abbrev HoldsOn : List Label → List (Item 𝓤) → List (Item 𝓤)
+  HoldsOn zs Γ = Tokens ∷ ‵ Arrays ∷ ‵ (Table zs) ∷ ‵ (flft κ q) ∷ Γ
 
   -- what the triple of the arrays' callee binds outside
   abbrev to-label : ℕ → (Reads 𝓛 mem run).Ghost
   to-label = sharing.to-label 𝓛 mem run κ₀ κ₁ κ₂ q₀ q₁ q₂ ps ls ds
 
   -- what is had at entry, taken apart
-  apart : ent 𝓤 (on_entry 𝓛 pack.signature κs qs a vals) (⋆ 𝓛 (Holds-on tb.now []))
+  apart : ent 𝓤 (on_entry 𝓛 pack.signature κs qs a vals) (⋆ 𝓛 (HoldsOn tb.now []))
   apart =
       qed 𝓛 ((‵ (flft κ₀ q₀) ⊛ ‵ (flft κ₁ q₁) ⊛ ‵ (flft κ₂ q₂) ⊛ ‵ (flft κ q) ⊛ ‵ ftrue) ∷ ‵ (owns (ShrSlice (named 0) κ₀ usize ∷ ShrSlice (named 1) κ₁ usize ∷ ShrSlice (named 2) κ₂ u16 ∷ MutSlice (named 3) κ T.the_row ∷ []) a vals) ∷ []) ∵
       split ! $ move ! (1 ∷ []) $ split ! $ move ! (1 ∷ []) $ split ! $ move ! (1 ∷ []) $ split ! $
@@ -174,9 +174,9 @@ module _ {M : Type 1} {𝓤 : Ura M} (𝓛 : Logic 𝓤) (mem : Memory → SProp
       move ! (2 ∷ 1 ∷ []) $ fjoin ! $ move ! (2 ∷ 0 ∷ []) $ fjoin ! $ move ! (2 ∷ 0 ∷ []) $ fjoin ! $ frame ! $ frame ! $ done !
 
   -- what is had where the loop has ended gives what the contract says at exit
-  exits : (zs : List Label) → length zs ≡ length tb.now → ent 𝓤 (⋆ 𝓛 (Holds-on zs [])) (Post vunit)
+  exits : (zs : List Label) → length zs ≡ length tb.now → ent 𝓤 (⋆ 𝓛 (HoldsOn zs [])) (Post vunit)
   exits zs e =
-      qed 𝓛 (Holds-on zs []) ∵
+      qed 𝓛 (HoldsOn zs []) ∵
       suffices ! _ (ends_at 𝓛 pack.ended stayed (pack.clauses 𝓛 mem run) bound vunit tt (tt, (tt, (tt, (zs, tt)))) (tt, (tt, (tt, (e, tt))))) $
       split ! $ move ! (1 ∷ []) $ split ! $ move ! (1 ∷ []) $ split ! $
       -- [the third token; true; the second; the first; the arrays; the table; its token]
@@ -218,12 +218,12 @@ module _ {M : Type 1} {𝓤 : Ura M} (𝓛 : Logic 𝓤) (mem : Memory → SProp
       -- where a turn begins: the turn's own locals have no value
       -- [the tokens; the arrays; the table; its token; _11; …; _10; …; _9; …; _8; …; _7; …; _6; …; _5; …; _4; …; _3; …; _2; …; _1; …; room for _0; …]
       abbrev At : ℕ → List Label → List (Item 𝓤)
-      At i zs = Holds-on zs (‵ (froom T'.mir l₁₁ 0) ∷ ‵ (fdies T'.mir l₁₁) ∷ ‵ (froom (slice_ty again) l₁₀ 0) ∷ ‵ (fdies (slice_ty again) l₁₀) ∷ ‵ (froom again l₉ 0) ∷ ‵ (fdies again l₉)
+      At i zs = HoldsOn zs (‵ (froom T'.mir l₁₁ 0) ∷ ‵ (fdies T'.mir l₁₁) ∷ ‵ (froom (slice_ty again) l₁₀ 0) ∷ ‵ (fdies (slice_ty again) l₁₀) ∷ ‵ (froom again l₉ 0) ∷ ‵ (fdies again l₉)
           ∷ ‵ (froom ty_unit l₈ 0) ∷ ‵ (fdies ty_unit l₈) ∷ ‵ (froom ty_bool l₇ 0) ∷ ‵ (fdies ty_bool l₇) ∷ Steady i)
 
       -- where it has read the entry r
       abbrev Found : ℕ → List Label → Label → List (Item 𝓤)
-      Found i zs r = Holds-on zs (‵ (fat full_share T'.mir l₁₁ 0 (T'.lowered r)) ∷ ‵ (fdies T'.mir l₁₁) ∷ ‵ (fat full_share (slice_ty again) l₁₀ 0 s) ∷ ‵ (fdies (slice_ty again) l₁₀) ∷ ‵ (fat full_share again l₉ 0 (vptr tb.ptr.0 tb.ptr.1)) ∷ ‵ (fdies again l₉)
+      Found i zs r = HoldsOn zs (‵ (fat full_share T'.mir l₁₁ 0 (T'.lowered r)) ∷ ‵ (fdies T'.mir l₁₁) ∷ ‵ (fat full_share (slice_ty again) l₁₀ 0 s) ∷ ‵ (fdies (slice_ty again) l₁₀) ∷ ‵ (fat full_share again l₉ 0 (vptr tb.ptr.0 tb.ptr.1)) ∷ ‵ (fdies again l₉)
           ∷ ‵ (froom ty_unit l₈ 0) ∷ ‵ (fdies ty_unit l₈) ∷ ‵ (fat full_share ty_bool l₇ 0 (vbool true)) ∷ ‵ (fdies ty_bool l₇) ∷ Steady i)
 
       -- the invariant, where t entries are left

@@ -150,16 +150,16 @@ module _ {M : Type 1} {𝓤 : Ura M} (𝓛 : Logic 𝓤) (mem : Memory → SProp
   abbrev Table : Fml
   Table = (ShrSlice (named 0) κ T.the_row).own_val table (held ∷ [])
 
-  abbrev Holds-on : List ℕ → List ℕ → List ℕ → List (Item 𝓤) → List (Item 𝓤)
-  Holds-on zs₀ zs₁ zs₂ Γ = ‵ (flft κ q) ∷ ‵ Table ∷ ‵ (Owned usize ps κ₀ zs₀) ∷ ‵ (flft κ₀ q₀) ∷ ‵ (Owned usize ls κ₁ zs₁) ∷ ‵ (flft κ₁ q₁) ∷ ‵ (Owned u16 ds κ₂ zs₂) ∷ ‵ (flft κ₂ q₂) ∷ Γ
+  abbrev HoldsOn : List ℕ → List ℕ → List ℕ → List (Item 𝓤) → List (Item 𝓤)
+  HoldsOn zs₀ zs₁ zs₂ Γ = ‵ (flft κ q) ∷ ‵ Table ∷ ‵ (Owned usize ps κ₀ zs₀) ∷ ‵ (flft κ₀ q₀) ∷ ‵ (Owned usize ls κ₁ zs₁) ∷ ‵ (flft κ₁ q₁) ∷ ‵ (Owned u16 ds κ₂ zs₂) ∷ ‵ (flft κ₂ q₂) ∷ Γ
 
-  abbrev Known-at : ℕ → Type 0
-  Known-at t = State n (length ps.now) (length ls.now) (length ds.now) t
+  abbrev KnownAt : ℕ → Type 0
+  KnownAt t = State n (length ps.now) (length ls.now) (length ds.now) t
 
   -- what is had where the loop has ended gives what the contract says at exit
-  exits : (t : ℕ) (k : Known-at t) → ent 𝓤 (⋆ 𝓛 (Holds-on k.zs₀ k.zs₁ k.zs₂ [])) (Post vunit)
+  exits : (t : ℕ) (k : KnownAt t) → ent 𝓤 (⋆ 𝓛 (HoldsOn k.zs₀ k.zs₁ k.zs₂ [])) (Post vunit)
   exits t k =
-      qed 𝓛 (Holds-on k.zs₀ k.zs₁ k.zs₂ []) ∵
+      qed 𝓛 (HoldsOn k.zs₀ k.zs₁ k.zs₂ []) ∵
       suffices ! _ (ends_at 𝓛 unpack.ended stayed (unpack.clauses 𝓛 mem run) bound vunit tt (tt, (k.zs₀, (k.zs₁, (k.zs₂, tt)))) (tt, (k.same₀, (k.same₁, (k.same₂, tt))))) $
       nothing ! $ move ! (8 ∷ 0 ∷ []) $ join ! $ move ! (6 ∷ 0 ∷ []) $ join ! $ move ! (4 ∷ 0 ∷ []) $ join ! $ move ! (1 ∷ 0 ∷ []) $ join ! $
       -- [the tokens; the table; the places; the lengths; the addresses]
@@ -197,16 +197,16 @@ module _ {M : Type 1} {𝓤 : Ura M} (𝓛 : Logic 𝓤) (mem : Memory → SProp
 
       -- where a turn begins: the turn's own locals have no value
       -- [the table's token; the table; each array and its token; _16; …; _0; …]
-      abbrev At : {t : ℕ} → Known-at t → List (Item 𝓤)
-      At k = Holds-on k.zs₀ k.zs₁ k.zs₂ (‵ (froom (slice_ty word-ref) l₁₆ 0) ∷ ‵ (fdies (slice_ty word-ref) l₁₆) ∷ ‵ (froom word-ref l₁₅ 0) ∷ ‵ (fdies word-ref l₁₅) ∷ ‵ (froom (slice_ty size-ref) l₁₄ 0) ∷ ‵ (fdies (slice_ty size-ref) l₁₄) ∷ ‵ (froom size-ref l₁₃ 0) ∷ ‵ (fdies size-ref l₁₃) ∷ ‵ (froom (slice_ty size-ref) l₁₂ 0) ∷ ‵ (fdies (slice_ty size-ref) l₁₂) ∷ ‵ (froom size-ref l₁₁ 0) ∷ ‵ (fdies size-ref l₁₁) ∷ ‵ (froom T'.mir l₁₀ 0) ∷ ‵ (fdies T'.mir l₁₀) ∷ ‵ (froom ty_ptr l₉ 0) ∷ ‵ (fdies ty_ptr l₉) ∷ ‵ (froom ty_unit l₈ 0) ∷ ‵ (fdies ty_unit l₈) ∷ ‵ (froom ty_bool l₇ 0) ∷ ‵ (fdies ty_bool l₇) ∷ ‵ (froom word l₆ 0) ∷ ‵ (fdies word l₆) ∷ Steady k.i)
+      abbrev At : {t : ℕ} → KnownAt t → List (Item 𝓤)
+      At k = HoldsOn k.zs₀ k.zs₁ k.zs₂ (‵ (froom (slice_ty word-ref) l₁₆ 0) ∷ ‵ (fdies (slice_ty word-ref) l₁₆) ∷ ‵ (froom word-ref l₁₅ 0) ∷ ‵ (fdies word-ref l₁₅) ∷ ‵ (froom (slice_ty size-ref) l₁₄ 0) ∷ ‵ (fdies (slice_ty size-ref) l₁₄) ∷ ‵ (froom size-ref l₁₃ 0) ∷ ‵ (fdies size-ref l₁₃) ∷ ‵ (froom (slice_ty size-ref) l₁₂ 0) ∷ ‵ (fdies (slice_ty size-ref) l₁₂) ∷ ‵ (froom size-ref l₁₁ 0) ∷ ‵ (fdies size-ref l₁₁) ∷ ‵ (froom T'.mir l₁₀ 0) ∷ ‵ (fdies T'.mir l₁₀) ∷ ‵ (froom ty_ptr l₉ 0) ∷ ‵ (fdies ty_ptr l₉) ∷ ‵ (froom ty_unit l₈ 0) ∷ ‵ (fdies ty_unit l₈) ∷ ‵ (froom ty_bool l₇ 0) ∷ ‵ (fdies ty_bool l₇) ∷ ‵ (froom word l₆ 0) ∷ ‵ (fdies word l₆) ∷ Steady k.i)
 
       -- where it has read the entry, and borrowed the arrays
-      abbrev Found : {t : ℕ} → Known-at t → List (Item 𝓤)
-      Found k = let i : ℕ = k.i in Holds-on k.zs₀ k.zs₁ k.zs₂ (‵ (fat full_share (slice_ty word-ref) l₁₆ 0 (value u16 ds)) ∷ ‵ (fdies (slice_ty word-ref) l₁₆) ∷ ‵ (fat full_share word-ref l₁₅ 0 (vptr ds.ptr.0 ds.ptr.1)) ∷ ‵ (fdies word-ref l₁₅) ∷ ‵ (fat full_share (slice_ty size-ref) l₁₄ 0 (value usize ls)) ∷ ‵ (fdies (slice_ty size-ref) l₁₄) ∷ ‵ (fat full_share size-ref l₁₃ 0 (vptr ls.ptr.0 ls.ptr.1)) ∷ ‵ (fdies size-ref l₁₃) ∷ ‵ (fat full_share (slice_ty size-ref) l₁₂ 0 (value usize ps)) ∷ ‵ (fdies (slice_ty size-ref) l₁₂) ∷ ‵ (fat full_share size-ref l₁₁ 0 (vptr ps.ptr.0 ps.ptr.1)) ∷ ‵ (fdies size-ref l₁₁) ∷ ‵ (fat full_share T'.mir l₁₀ 0 (T'.lowered (entry i))) ∷ ‵ (fdies T'.mir l₁₀) ∷ ‵ (fat full_share ty_ptr l₉ 0 (vptr table.ptr.0 (place 24 table.ptr.1 i))) ∷ ‵ (fdies ty_ptr l₉) ∷ ‵ (froom ty_unit l₈ 0) ∷ ‵ (fdies ty_unit l₈) ∷ ‵ (fat full_share ty_bool l₇ 0 (vbool true)) ∷ ‵ (fdies ty_bool l₇) ∷ ‵ (fat full_share word l₆ 0 (vint w64 (i * 24))) ∷ ‵ (fdies word l₆) ∷ Steady i)
+      abbrev Found : {t : ℕ} → KnownAt t → List (Item 𝓤)
+      Found k = let i : ℕ = k.i in HoldsOn k.zs₀ k.zs₁ k.zs₂ (‵ (fat full_share (slice_ty word-ref) l₁₆ 0 (value u16 ds)) ∷ ‵ (fdies (slice_ty word-ref) l₁₆) ∷ ‵ (fat full_share word-ref l₁₅ 0 (vptr ds.ptr.0 ds.ptr.1)) ∷ ‵ (fdies word-ref l₁₅) ∷ ‵ (fat full_share (slice_ty size-ref) l₁₄ 0 (value usize ls)) ∷ ‵ (fdies (slice_ty size-ref) l₁₄) ∷ ‵ (fat full_share size-ref l₁₃ 0 (vptr ls.ptr.0 ls.ptr.1)) ∷ ‵ (fdies size-ref l₁₃) ∷ ‵ (fat full_share (slice_ty size-ref) l₁₂ 0 (value usize ps)) ∷ ‵ (fdies (slice_ty size-ref) l₁₂) ∷ ‵ (fat full_share size-ref l₁₁ 0 (vptr ps.ptr.0 ps.ptr.1)) ∷ ‵ (fdies size-ref l₁₁) ∷ ‵ (fat full_share T'.mir l₁₀ 0 (T'.lowered (entry i))) ∷ ‵ (fdies T'.mir l₁₀) ∷ ‵ (fat full_share ty_ptr l₉ 0 (vptr table.ptr.0 (place 24 table.ptr.1 i))) ∷ ‵ (fdies ty_ptr l₉) ∷ ‵ (froom ty_unit l₈ 0) ∷ ‵ (fdies ty_unit l₈) ∷ ‵ (fat full_share ty_bool l₇ 0 (vbool true)) ∷ ‵ (fdies ty_bool l₇) ∷ ‵ (fat full_share word l₆ 0 (vint w64 (i * 24))) ∷ ‵ (fdies word l₆) ∷ Steady i)
 
       -- the invariant, where t entries are left
       abbrev Inv : ℕ → SProp 𝓤
-      Inv t = ex 𝓤 (λ (k : Known-at t). ⋆ 𝓛 (At k))
+      Inv t = ex 𝓤 (λ (k : KnownAt t). ⋆ 𝓛 (At k))
 
       abbrev Below : ℕ → SProp 𝓤
       Below t = ex 𝓤 (λ (t' : ℕ). guard 𝓤 (t' < t) (Inv t'))
@@ -216,7 +216,7 @@ module _ {M : Type 1} {𝓤 : Ura M} (𝓛 : Logic 𝓤) (mem : Memory → SProp
       Left = after_block 𝓤 H (after_seq 𝓤 H (Wp 𝓤 H C Λ En text.t-3 (at_return 𝓤 H En Post)) (at_return 𝓤 H En Post))
 
       -- the entry is stored: the arrays are lent again for lifetimes of the call, and come back at the lists that `put_label` left
-      puts : (t : ℕ) (k : Known-at (suc t)) (X : SProp 𝓤) → k.i < n → Is T.the_row (entry k.i) (T'.lowered (entry k.i) ∷ []) → ((k' : Known-at t) → ent 𝓤 (⋆ 𝓛 (At k')) X)
+      puts : (t : ℕ) (k : KnownAt (suc t)) (X : SProp 𝓤) → k.i < n → Is T.the_row (entry k.i) (T'.lowered (entry k.i) ∷ []) → ((k' : KnownAt t) → ent 𝓤 (⋆ 𝓛 (At k')) X)
           → Sq 𝓛 (Found k) (runs C Λ En storing (any_q (after_turn 𝓤 H X Left)))
       unfolding after_turn
       puts t k X small g next =
@@ -254,7 +254,7 @@ module _ {M : Type 1} {𝓤 : Ura M} (𝓛 : Logic 𝓤) (mem : Memory → SProp
           by ! (next (record { i = k.i + 1; zs₀ = ws.1.1.0; zs₁ = ws.1.1.1.0; zs₂ = ws.1.1.1.1.0; left = omega (arith, k.left); same₀ = e₀ ∙ k.same₀; same₁ = e₁ ∙ k.same₁; same₂ = e₂ ∙ k.same₂ })))))))))))))))
 
       -- a turn that reads entry i and stores it
-      more : (t : ℕ) (k : Known-at (suc t)) (X : SProp 𝓤) → k.i < n → ((k' : Known-at t) → ent 𝓤 (⋆ 𝓛 (At k')) X) → ent 𝓤 (⋆ 𝓛 (At k)) (Wp 𝓤 H C Λ En text.turn-1 (after_turn 𝓤 H X Left))
+      more : (t : ℕ) (k : KnownAt (suc t)) (X : SProp 𝓤) → k.i < n → ((k' : KnownAt t) → ent 𝓤 (⋆ 𝓛 (At k')) X) → ent 𝓤 (⋆ 𝓛 (At k)) (Wp 𝓤 H C Λ En text.turn-1 (after_turn 𝓤 H X Left))
       more t k X small next =
           qed 𝓛 (At k) ∵ exec ! C Λ En text.turn-1 (any_q (after_turn 𝓤 H X Left)) $
           assigns ! (of_opd ! (load ! (from ! (fld ! refl (stop !))) (look_in ! 38 (sub ! 1 refl (whole !))))) (from ! (stop !)) (init ! 28 refl (tt, record { fits = gt.0 })) $
@@ -280,7 +280,7 @@ module _ {M : Type 1} {𝓤 : Ura M} (𝓛 : Logic 𝓤) (mem : Memory → SProp
           puts t k X small g next))
 
       -- the turn that leaves the loop, and the rest of the body
-      ends : (k : Known-at 0) (X : SProp 𝓤) → ltb k.i n ≡ false → ent 𝓤 (⋆ 𝓛 (At k)) (Wp 𝓤 H C Λ En text.turn-1 (after_turn 𝓤 H X Left))
+      ends : (k : KnownAt 0) (X : SProp 𝓤) → ltb k.i n ≡ false → ent 𝓤 (⋆ 𝓛 (At k)) (Wp 𝓤 H C Λ En text.turn-1 (after_turn 𝓤 H X Left))
       unfolding after_turn
       ends k X e =
           qed 𝓛 (At k) ∵ exec ! C Λ En text.turn-1 (any_q (after_turn 𝓤 H X Left)) $
@@ -292,35 +292,35 @@ module _ {M : Type 1} {𝓤 : Ura M} (𝓛 : Logic 𝓤) (mem : Memory → SProp
           returns ! (look ! 40 refl) $ forget ! 26 refl $ forget ! 28 refl $ forget ! 30 refl $ forget ! 32 refl $ forget ! 34 refl $ forget ! 36 refl $ forget ! 38 refl $ forget ! 40 refl $
           move ! (40 ∷ 41 ∷ []) $ free1 ! $ move ! (38 ∷ 39 ∷ []) $ free1 ! $ move ! (36 ∷ 37 ∷ []) $ free1 ! $ move ! (34 ∷ 35 ∷ []) $ free1 ! $ move ! (32 ∷ 33 ∷ []) $ free1 ! $ move ! (30 ∷ 31 ∷ []) $ free1 ! $ move ! (28 ∷ 29 ∷ []) $ free1 ! $ move ! (26 ∷ 27 ∷ []) $ free1 ! $ move ! (24 ∷ 25 ∷ []) $ free1 ! $ move ! (22 ∷ 23 ∷ []) $ free1 ! $ move ! (20 ∷ 21 ∷ []) $ free1 ! $ move ! (18 ∷ 19 ∷ []) $ free1 ! $ move ! (16 ∷ 17 ∷ []) $ free1 ! $ move ! (14 ∷ 15 ∷ []) $ free1 ! $ move ! (12 ∷ 13 ∷ []) $ free1 ! $ move ! (10 ∷ 11 ∷ []) $ free1 ! $ move ! (8 ∷ 9 ∷ []) $ free1 ! $ free0 ! $ by ! (exits 0 k)
 
-      below : (t : ℕ) (k : Known-at t) → ent 𝓤 (⋆ 𝓛 (At k)) (Below (suc t))
+      below : (t : ℕ) (k : KnownAt t) → ent 𝓤 (⋆ 𝓛 (At k)) (Below (suc t))
       below t k =
-          via 𝓤 (Inv t) (ex_i 𝓤 (λ (k' : Known-at t). ⋆ 𝓛 (At k')) k)
+          via 𝓤 (Inv t) (ex_i 𝓤 (λ (k' : KnownAt t). ⋆ 𝓛 (At k')) k)
           (via 𝓤 (guard 𝓤 (t < suc t) (Inv t)) (guard_i 𝓤 (t < suc t) (Inv t) (lt-suc_self t)) (ex_i 𝓤 (λ (u : ℕ). guard 𝓤 (u < suc t) (Inv u)) t))
 
       -- a turn from the invariant at t leaves the loop, or ends in the invariant below t
-      turn_at : (t : ℕ) (k : Known-at t) → ent 𝓤 (⋆ 𝓛 (At k)) (Wp 𝓤 H C Λ En text.turn-1 (after_turn 𝓤 H (Below t) Left))
+      turn_at : (t : ℕ) (k : KnownAt t) → ent 𝓤 (⋆ 𝓛 (At k)) (Wp 𝓤 H C Λ En text.turn-1 (after_turn 𝓤 H (Below t) Left))
       turn_at zero k = ends k (Below zero) (fails (ltb k.i n) (λ h. lt_irrefl n (subst (λ (j : ℕ). j < n) (sym (add-zero k.i) ∙ k.left) (ltb→lt k.i n h))))
       turn_at (suc t) k = more t k (Below (suc t)) (omega (arith, k.left)) (below t)
 
       turns : (t : ℕ) → ent 𝓤 (Inv t) (Wp 𝓤 H C Λ En text.turn-1 (after_turn 𝓤 H (Below t) Left))
-      turns t = ex_e 𝓤 (λ (k : Known-at t). ⋆ 𝓛 (At k)) (turn_at t)
+      turns t = ex_e 𝓤 (λ (k : KnownAt t). ⋆ 𝓛 (At k)) (turn_at t)
 
-      abbrev first : Known-at n
+      abbrev first : KnownAt n
       first = record { i = 0; zs₀ = ps.now; zs₁ = ls.now; zs₂ = ds.now; left = zero-add n; same₀ = refl; same₁ = refl; same₂ = refl }
 
       loops : ent 𝓤 (⋆ 𝓛 (At first)) (Wp 𝓤 H C Λ En (loop text.turn-1) Left)
-      loops = via 𝓤 (Inv n) (ex_i 𝓤 (λ (k : Known-at n). ⋆ 𝓛 (At k)) first) (loop_rule 𝓤 H 𝓛.laws 𝓣 ◌<◌ lt-wf_rel.wf En text.turn-1 Left Inv turns n)
+      loops = via 𝓤 (Inv n) (ex_i 𝓤 (λ (k : KnownAt n). ⋆ 𝓛 (At k)) first) (loop_rule 𝓤 H 𝓛.laws 𝓣 ◌<◌ lt-wf_rel.wf En text.turn-1 Left Inv turns n)
 
-    abbrev Owned-all : List (Item 𝓤)
-    Owned-all = Holds-on ps.now ls.now ds.now []
+    abbrev OwnedAll : List (Item 𝓤)
+    OwnedAll = HoldsOn ps.now ls.now ds.now []
 
     abbrev values : List Val
     values = held ∷ value usize ps ∷ value usize ls ∷ value u16 ds ∷ []
 
     -- the MIR, up to the loop
-    enters : ent 𝓤 (⋆ 𝓛 Owned-all) (WpFn 𝓤 H C Λ code.function values Post)
+    enters : ent 𝓤 (⋆ 𝓛 OwnedAll) (WpFn 𝓤 H C Λ code.function values Post)
     enters =
-        qed 𝓛 Owned-all ∵ enter ! C Λ code.function values Post $
+        qed 𝓛 OwnedAll ∵ enter ! C Λ code.function values Post $
         alloc1 ! (λ l₀. alloc1 ! (λ l₁. alloc1 ! (λ l₂. alloc1 ! (λ l₃. alloc1 ! (λ l₄. alloc1 ! (λ l₅. alloc1 ! (λ l₆. alloc1 ! (λ l₇. alloc1 ! (λ l₈. alloc1 ! (λ l₉. alloc1 ! (λ l₁₀. alloc1 ! (λ l₁₁. alloc1 ! (λ l₁₂. alloc1 ! (λ l₁₃. alloc1 ! (λ l₁₄. alloc1 ! (λ l₁₅. alloc1 ! (λ l₁₆. alloc0 ! $ params1 ! $
         pass1 ! (init ! 30 refl (tt, (tt, (record { fits = gt.0 }, tt)))) $ pass1 ! (init ! 28 refl (tt, (tt, (record { fits = g₀.0 }, tt)))) $ pass1 ! (init ! 26 refl (tt, (tt, (record { fits = g₁.0 }, tt)))) $ pass1 ! (init ! 24 refl (tt, (tt, (record { fits = g₂.0 }, tt)))) $ pass0 ! $
         -- [_16; …; _0; …; the table's token; the table; each array and its token]

@@ -4,7 +4,7 @@ use mathlib.Core.Bool.{true, false}
 use borrow.Author.Rules.{rules}
 use borrow.Author.Tests.{not-true, not-false}
 use Rattle.memory.specs.Bytes.{lent}
-use Rattle.block.specs.Block.{isBlock}
+use Rattle.block.specs.Block.{is_block}
 use Rattle.seamkettle.proofs.LoadLaws.{load-bad, load-odd, load-good, unnumbered}
 use Rattle.block.proofs.Laws.{block-length}
 use Rattle.wordbytes.proofs.Laws.{even-yes, even-no}
@@ -27,7 +27,7 @@ returns c =
     let block = s.block.now in
     let b = lent s.memory.now s.devices.now in
     let j = s.journal.now in
-    let e : isBlock block ≡ false = sym c.before.before.is_Block.ensures ∙ not-true _ c.before.if1.true in
+    let e : is_block block ≡ false = sym c.before.before.is_block.ensures ∙ not-true _ c.before.if1.true in
     unnumbered c.bad-block.ensures (load-bad words block b j e)
 
 bad-block-requires-2 : tie.Need-bad-block-requires-2
@@ -43,13 +43,13 @@ returns-2 c =
     let block = s.block.now in
     let b = lent s.memory.now s.devices.now in
     let j = s.journal.now in
-    let e : isBlock block ≡ true = sym c.before.before.before.is_Block.ensures ∙ not-false _ c.before.before.if1.false in
+    let e : is_block block ≡ true = sym c.before.before.before.is_block.ensures ∙ not-false _ c.before.before.if1.false in
     unnumbered c.bad-block2.ensures (load-odd words block b j e (even-no words c.before.if2.true))
 
 unpack-requires : tie.Need-unpack-requires
 unpack-requires c κs =
     let block = c.before.before.before.before.before.before.before.before.before.before.args.block.now in
-    let e : isBlock block ≡ true = sym c.before.before.before.is_Block.ensures ∙ not-false _ c.before.before.if1.false in
+    let e : is_block block ≡ true = sym c.before.before.before.is_block.ensures ∙ not-false _ c.before.before.if1.false in
     block-length block e
 
 slice-aggregate-load-words : tie.Need-slice-aggregate-load-words
@@ -62,7 +62,7 @@ pack-requires : tie.Need-pack-requires
 pack-requires c κs =
     let u = c.before.before.before.before.before.before.before.before.before.before.before in
     let block = u.before.before.before.before.before.before.before.before.before.before.before.args.block.now in
-    let e : isBlock block ≡ true = sym u.before.before.before.before.is_Block.ensures ∙ not-false _ u.before.before.before.if1.false in
+    let e : is_block block ≡ true = sym u.before.before.before.before.is_block.ensures ∙ not-false _ u.before.before.before.if1.false in
     block-length block e
 
 of-answer-requires : tie.Need-of-answer-requires
@@ -87,7 +87,7 @@ returns-3 c =
     let block = s.block.now in
     let b = lent s.memory.now s.devices.now in
     let j = s.journal.now in
-    let e : isBlock block ≡ true = sym u.before.before.before.before.is_Block.ensures ∙ not-false _ u.before.before.before.if1.false in
+    let e : is_block block ≡ true = sym u.before.before.before.before.is_block.ensures ∙ not-false _ u.before.before.before.if1.false in
     load-good words block b j e (even-yes words u.before.before.if2.false) u.unpack.result q.result.state
     c.of-answer.result p.new.1.0 (lent q.new.1.0 q.new.1.1.0) u.unpack.ensures
     (c.of-answer.ensures ∙ q.ensures.0) q.ensures.1.0 p.ensures q.ensures.1.1

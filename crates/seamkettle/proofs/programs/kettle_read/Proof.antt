@@ -6,7 +6,7 @@ use borrow.Author.Rules.{rules}
 use borrow.Author.Tests.{not-true, not-false}
 use Rattle.memory.specs.Bytes.{lent}
 use Rattle.memory.specs.Blocks.{counted}
-use Rattle.block.specs.Block.{isBlock}
+use Rattle.block.specs.Block.{is_block}
 use Rattle.seamkettle.proofs.LoadLaws.{read-bad, buffer-bad, read_fits, read-good, buffer-good}
 use Rattle.block.proofs.Laws.{block-length}
 use Rattle.seamkettle.proofs.programs.kettle_read.Statement.{statement}
@@ -23,7 +23,7 @@ returns c =
     let s = c.before.before.before.before.before.before.before.before.args in
     let b = lent s.memory.now s.devices.now in
     let j = s.journal.now in
-    let e : isBlock s.block.now ≡ false = sym c.before.before.is_Block.ensures ∙ not-true _ c.before.if1.true in
+    let e : is_block s.block.now ≡ false = sym c.before.before.is_block.ensures ∙ not-true _ c.before.if1.true in
     let block = s.block.now in (
       c.bad-block.ensures ∙ read-bad block b j s.start s.size e (length s.buffer.now),
       buffer-bad block b j s.start s.size e s.buffer.now,
@@ -32,7 +32,7 @@ returns c =
 unpack-requires : tie.Need-unpack-requires
 unpack-requires c κs =
     let s = c.before.before.before.before.before.before.before.args in
-    let e : isBlock s.block.now ≡ true = sym c.before.is_Block.ensures ∙ not-false _ c.if1.false in
+    let e : is_block s.block.now ≡ true = sym c.before.is_block.ensures ∙ not-false _ c.if1.false in
     block-length s.block.now e
 
 narrow-start-requires : tie.Need-narrow-start-requires
@@ -73,7 +73,7 @@ returns-2 c =
     let b = lent s.memory.now s.devices.now in
     let j = s.journal.now in
     let block = s.block.now in
-    let e : isBlock block ≡ true = sym k.before.before.is_Block.ensures ∙ not-false _ k.before.if1.false in (
+    let e : is_block block ≡ true = sym k.before.before.is_block.ensures ∙ not-false _ k.before.if1.false in (
       c.of-read.ensures
           ∙ read-good u.result b j s.start s.size a.result n.result a.ensures n.ensures
           block e u.ensures (length s.buffer.now) (counted r.result) r.ensures.0,

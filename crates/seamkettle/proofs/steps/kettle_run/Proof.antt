@@ -3,7 +3,7 @@ use mathlib.Core.Path.{◌≡◌, sym, ◌∙◌}
 use mathlib.Core.Bool.{true, false}
 use borrow.Author.Tests.{not-true, not-false}
 use Rattle.memory.specs.Bytes.{lent}
-use Rattle.block.specs.Block.{isBlock}
+use Rattle.block.specs.Block.{is_block}
 use Rattle.block.proofs.Laws.{block-length}
 use Rattle.seamkettle.proofs.CallLaws.{running_none, running-some}
 use borrow.Author.Rules.{rules}
@@ -22,13 +22,13 @@ same_length c = search rules
 returns : tie.Need-returns
 returns c =
     let x = c.before.before.before.before.before.before.before.before.args in
-    let e : isBlock x.block.now ≡ false = sym c.before.before.is_Block.ensures ∙ not-true _ c.before.if1.true in
+    let e : is_block x.block.now ≡ false = sym c.before.before.is_block.ensures ∙ not-true _ c.before.if1.true in
     running_none x.block.now e (lent x.memory.now x.devices.now) x.journal.now c.bad-block.ensures x.steps
 
 unpack-requires : tie.Need-unpack-requires
 unpack-requires c κs =
     let x = c.before.before.before.before.before.before.before.before.args in
-    block-length x.block.now (sym c.before.before.is_Block.ensures ∙ not-false _ c.before.if1.false)
+    block-length x.block.now (sym c.before.before.is_block.ensures ∙ not-false _ c.before.if1.false)
 
 run-requires : tie.Need-run-requires
 run-requires c κs = search rules
@@ -37,7 +37,7 @@ pack-requires : tie.Need-pack-requires
 pack-requires c κs =
     let u = c.before.before.before.before.before.before.before.before.before.before.before.before in
     let x = u.before.before.before.before.before.before.before.before.before.args in
-    block-length x.block.now (sym u.before.before.before.is_Block.ensures ∙ not-false _ u.before.before.if1.false)
+    block-length x.block.now (sym u.before.before.before.is_block.ensures ∙ not-false _ u.before.before.if1.false)
 
 of-run-requires : tie.Need-of-run-requires
 of-run-requires c κs = search rules
@@ -59,7 +59,7 @@ returns-2 c =
     let call = c.before.before.before.before.before.before.before.before.before.before.before.before in
     let u = call.before.before.before.before in
     let x = u.before.before.before.before.before.before.before.before.before.args in
-    let e : isBlock x.block.now ≡ true = sym u.before.before.before.is_Block.ensures ∙ not-false _ u.before.before.if1.false in
+    let e : is_block x.block.now ≡ true = sym u.before.before.before.is_block.ensures ∙ not-false _ u.before.before.if1.false in
     running-some x.block.now e u.unpack.ensures c.before.before.before.pack.ensures
     (lent x.memory.now x.devices.now) x.journal.now x.steps call.run.ensures c.of-run.ensures
 

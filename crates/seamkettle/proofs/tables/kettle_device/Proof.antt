@@ -3,9 +3,9 @@ use mathlib.Core.Path.{◌≡◌, sym, ◌∙◌}
 use mathlib.Core.Bool.{true, false}
 use borrow.Author.Tests.{not-true, not-false}
 use Rattle.journal.specs.declared.State.{State}
-use Rattle.block.specs.Block.{isBlock}
+use Rattle.block.specs.Block.{is_block}
 use Rattle.block.proofs.Laws.{block-length}
-use Rattle.host.specs.Host.{registerNumber, registerState}
+use Rattle.host.specs.Host.{register_number, register_state}
 use Rattle.seamkettle.proofs.CallLaws.{number-none, number-some, block_none, block-some}
 use Rattle.seamkettle.proofs.RangeLaws.{register-narrow}
 use borrow.Author.Rules.{rules}
@@ -24,17 +24,17 @@ same_length c = search rules
 returns : tie.Need-returns
 returns c =
     let x = c.before.before.before.before.before.before.before.args in
-    let e : isBlock x.block.now ≡ false = sym c.before.before.is_Block.ensures ∙ not-true _ c.before.if1.true in
+    let e : is_block x.block.now ≡ false = sym c.before.before.is_block.ensures ∙ not-true _ c.before.if1.true in
     let dev = x.devices.now in
     let j = x.journal.now in (
-      number-none x.block.now e c.bad-block.ensures (λ (s : State). registerNumber s dev j x.start x.size),
-      block_none x.block.now e (λ (s : State). registerState s dev j x.start x.size),
+      number-none x.block.now e c.bad-block.ensures (λ (s : State). register_number s dev j x.start x.size),
+      block_none x.block.now e (λ (s : State). register_state s dev j x.start x.size),
     )
 
 unpack-requires : tie.Need-unpack-requires
 unpack-requires c κs =
     let x = c.before.before.before.before.before.before.before.args in
-    block-length x.block.now (sym c.before.before.is_Block.ensures ∙ not-false _ c.before.if1.false)
+    block-length x.block.now (sym c.before.before.is_block.ensures ∙ not-false _ c.before.if1.false)
 
 narrow-start-requires : tie.Need-narrow-start-requires
 narrow-start-requires c κs = search rules
@@ -49,7 +49,7 @@ pack-requires : tie.Need-pack-requires
 pack-requires c κs =
     let u = c.before.before.before.before.before in
     let x = u.before.before.before.before.before.before.before.before.args in
-    block-length x.block.now (sym u.before.before.before.is_Block.ensures ∙ not-false _ u.before.before.if1.false)
+    block-length x.block.now (sym u.before.before.before.is_block.ensures ∙ not-false _ u.before.before.if1.false)
 
 of-answer-requires : tie.Need-of-answer-requires
 of-answer-requires c κs = search rules
@@ -62,15 +62,15 @@ returns-2 c =
     let call = c.before.before.before.before.before.before in
     let u = call.before.before.before in
     let x = u.before.before.before.before.before.before.before.before.args in
-    let e : isBlock x.block.now ≡ true = sym u.before.before.before.is_Block.ensures ∙ not-false _ u.before.before.if1.false in
+    let e : is_block x.block.now ≡ true = sym u.before.before.before.is_block.ensures ∙ not-false _ u.before.before.if1.false in
     let dev = x.devices.now in
     let j = x.journal.now in
     let f = register-narrow x.start x.size call.before.before.narrow_start.ensures call.before.narrow-len.ensures
     u.unpack.result dev j in (
-      number-some x.block.now e u.unpack.ensures (λ (s : State). registerNumber s dev j x.start x.size)
+      number-some x.block.now e u.unpack.ensures (λ (s : State). register_number s dev j x.start x.size)
           (c.of-answer.ensures ∙ call.register-device.ensures.0 ∙ f.0),
       block-some x.block.now e u.unpack.ensures c.before.before.before.pack.ensures
-          (λ (s : State). registerState s dev j x.start x.size) (call.register-device.ensures.1 ∙ f.1),
+          (λ (s : State). register_state s dev j x.start x.size) (call.register-device.ensures.1 ∙ f.1),
     )
 
 pub kettle-device-spec : {M : Type 1} → statement M

@@ -3,7 +3,7 @@ use mathlib.Core.Path.{ap, ◌∙◌}
 use lib.ListN.{length}
 use borrow.Author.Rules.{rules}
 use Rattle.printer.specs.Print.{printed}
-use Rattle.numbers.specs.Answers.{listedNumber}
+use Rattle.numbers.specs.Answers.{listed_number}
 use Rattle.seamkettle.proofs.TextLaws.{list-fits}
 use Rattle.seamkettle.proofs.texts.kettle_list.Statement.{statement}
 use Rattle.seamkettle.proofs.texts.kettle_list.Tie as tie
@@ -21,7 +21,7 @@ same_length : tie.Need-same-length
 same_length c = search rules
 
 returns : tie.Need-returns
-returns c = (c.of-list.ensures ∙ ap listedNumber c.before.before.before.list.ensures.0, c.before.before.before.list.ensures.1.0)
+returns c = (c.of-list.ensures ∙ ap listed_number c.before.before.before.list.ensures.0, c.before.before.before.list.ensures.1.0)
 
 pub kettle-list-spec : {M : Type 1} → statement M
 kettle-list-spec =

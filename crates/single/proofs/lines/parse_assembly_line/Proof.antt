@@ -39,14 +39,14 @@ use denote.Triple.Table.{entered, cited}
 use denote.Triple.Walked.{says, Stays, stay_none_slice, walk_of, Goes-none_slice, Walks, ends_at, walked, walk_Meets}
 use denote.Exit.{yes}
 use denote.Triple.Clauses.{ensured, lasts}
-use Rattle.text.specs.Tokens.{tokenAt}
+use Rattle.text.specs.Tokens.{token_at}
 use Rattle.labels.specs.declared.Label.{Label}
 use Rattle.labels.specs.contracts.Label as T
 use Rattle.labels.specs.Labels as Labels
 use Rattle.labels.specs.declared.Found.{Found}
 use Rattle.labels.specs.contracts.Found as K
 use Rattle.labels.proofs.Found.TheLaws as K'
-use Rattle.single.specs.Single.{toldLine, single}
+use Rattle.single.specs.Single.{told_line, single}
 use Rattle.single.specs.declared.LineAnswer.{LineAnswer}
 use Rattle.single.specs.contracts.LineAnswer as R
 use Rattle.single.proofs.LineAnswer.TheLaws as R'
@@ -134,8 +134,8 @@ module _ {M : Type 1} {𝓤 : Ura M} (𝓛 : Logic 𝓤) (mem : Memory → SProp
       nothing ! $ owned ! usize (Is usize) (uint_Makes 𝓛 w64) 1 _ (refl, lit< tt) $ fjoin ! $ move ! (1 ∷ 0 ∷ []) $ fjoin ! $
       move ! (8 ∷ 3 ∷ 0 ∷ []) $ join ! $ use2 𝓛 (raw ((Token 𝓛 mem run).pre to-token)) asks-token $ keep ! (0 ∷ 1 ∷ 3 ∷ 2 ∷ 6 ∷ 4 ∷ []) $ done !
 
-  token-said : (r : Bor (List ℕ)) → ent 𝓤 (ensured 𝓛 token.ended (token.clauses 𝓛 mem run) (κ₀, tt) (line, (1, tt)) tt r) (fact 𝓤 (r.now ≡ tokenAt line.now 1))
-  token-said r = ex_e 𝓤 _ (λ ws. snd∗ 𝓤 (sem 𝓛 (lasts token.ended (κ₀, tt) (line, (1, tt)) ws)) (fact 𝓤 (r.now ≡ tokenAt line.now 1)))
+  token-said : (r : Bor (List ℕ)) → ent 𝓤 (ensured 𝓛 token.ended (token.clauses 𝓛 mem run) (κ₀, tt) (line, (1, tt)) tt r) (fact 𝓤 (r.now ≡ token_at line.now 1))
+  token-said r = ex_e 𝓤 _ (λ ws. snd∗ 𝓤 (sem 𝓛 (lasts token.ended (κ₀, tt) (line, (1, tt)) ws)) (fact 𝓤 (r.now ≡ token_at line.now 1)))
 
   -- the call of `find`, at the name n with the machine value u
   module _ (n : Bor (List ℕ)) (u : Val) where
@@ -179,12 +179,12 @@ module _ {M : Type 1} {𝓤 : Ura M} (𝓛 : Logic 𝓤) (mem : Memory → SProp
         use2 𝓛 (raw ((Tells 𝓛 mem run).pre to-told)) asks-told $ keep ! (0 ∷ 1 ∷ 4 ∷ 5 ∷ 3 ∷ 2 ∷ []) $ done !
 
     abbrev Promised : LineAnswer → Type 0
-    Promised r = (t : List ℕ) (ls : List Label) → k ≡ Labels.find t (tokenAt line.now 1) ls → toldLine r ≡ single line.now t ls
+    Promised r = (t : List ℕ) (ls : List Label) → k ≡ Labels.find t (token_at line.now 1) ls → told_line r ≡ single line.now t ls
 
     told-said : (r : LineAnswer) → ent 𝓤 (ensured 𝓛 told.ended (told.clauses 𝓛 mem run) (κ₀, tt) (line, (k, tt)) tt r) (fact 𝓤 (Promised r))
     told-said r = ex_e 𝓤 _ (λ ws. snd∗ 𝓤 (sem 𝓛 (lasts told.ended (κ₀, tt) (line, (k, tt)) ws)) (fact 𝓤 (Promised r)))
 
-  exits : (r : LineAnswer) (u : Val) → toldLine r ≡ single line.now text.now table.now
+  exits : (r : LineAnswer) (u : Val) → told_line r ≡ single line.now text.now table.now
       → ent 𝓤 (⋆ 𝓛 (‵ ((R.the_row).own_val r (u ∷ [])) ∷ (‵ (flft κ₀ q₀) ⊛ ‵ ftrue) ∷ ‵ O₀ ∷ ‵ O₁ ∷ ‵ O₂ ∷ ‵ (flft κ₁ q₁) ∷ ‵ (flft κ₂ q₂) ∷ [])) (Post u)
   exits r u e =
       qed 𝓛 (‵ ((R.the_row).own_val r (u ∷ [])) ∷ (‵ (flft κ₀ q₀) ⊛ ‵ ftrue) ∷ ‵ O₀ ∷ ‵ O₁ ∷ ‵ O₂ ∷ ‵ (flft κ₁ q₁) ∷ ‵ (flft κ₂ q₂) ∷ []) ∵
@@ -210,7 +210,7 @@ module _ {M : Type 1} {𝓤 : Ura M} (𝓛 : Logic 𝓤) (mem : Memory → SProp
         -- [what `token` asks; the rest; room for _6; …; _5; …; room for _4; …; _3; …; _2; …; _1; …; room for _0; …]
         calls_at ! fm (Token 𝓛 mem run) known-token to-token (and_then ! (load ! (from ! (stop !)) (look ! 12 refl)) (and_then ! (lit ! tt) (no_more !))) (λ u.
         use1 𝓛 (later (some (λ (n : Bor (List ℕ)). ((‵ (flft κ₀ q₀) ⊛ ‵ ftrue) ⊛ ‵ ((ShrSlice (named 0) κ₀ u8).own_val n (u ∷ []))) ⊛ raw (ensured 𝓛 token.ended (token.clauses 𝓛 mem run) (κ₀, tt) (line, (1, tt)) tt n)))) (id⊢ 𝓤 _) $ await ! tt $ pick ! (λ n.
-        split ! $ move ! (1 ∷ []) $ use1 𝓛 (raw (fact 𝓤 (n.now ≡ tokenAt line.now 1))) (token-said n) $ heard ! (n.now ≡ tokenAt line.now 1) (λ e. split ! $ move ! (1 ∷ []) $
+        split ! $ move ! (1 ∷ []) $ use1 𝓛 (raw (fact 𝓤 (n.now ≡ token_at line.now 1))) (token-said n) $ heard ! (n.now ≡ token_at line.now 1) (λ e. split ! $ move ! (1 ∷ []) $
         -- [what the name owns; κ₀'s token; the rest; room for _6; …]
         peeks ! (ShrSlice (named 0) κ₀ u8) (Is (ShrSlice (named 0) κ₀ u8)) (shows 𝓛 (ShrSlice (named 0) κ₀ u8)) n (u ∷ []) (λ is.
         land ! (from ! (stop !)) (init ! 3 refl ((shr_slice_Lawful 𝓛 erased κ₀ u8).typed n (u ∷ []) is).0) $
@@ -230,7 +230,7 @@ module _ {M : Type 1} {𝓤 : Ura M} (𝓛 : Logic 𝓤) (mem : Memory → SProp
         land ! (from ! (stop !)) (init ! 15 refl ((EL.lawful R.the_type R'.the_laws 𝓛 tt).typed r _ rs).0) $
         returns ! (look ! 15 refl) $ forget ! 3 refl $ forget ! 5 refl $ forget ! 7 refl $ forget ! 9 refl $ forget ! 11 refl $ forget ! 13 refl $ forget ! 15 refl $
         move ! (15 ∷ 16 ∷ []) $ free1 ! $ move ! (13 ∷ 14 ∷ []) $ free1 ! $ move ! (11 ∷ 12 ∷ []) $ free1 ! $ move ! (9 ∷ 10 ∷ []) $ free1 ! $ move ! (7 ∷ 8 ∷ []) $ free1 ! $ move ! (5 ∷ 6 ∷ []) $ free1 ! $ move ! (3 ∷ 4 ∷ []) $ free1 ! $ free0 ! $
-        by ! (exits r z (g text.now table.now (f ∙ ap (λ (x : List ℕ). Labels.find text.now x (take (length table.now) table.now)) e ∙ ap (Labels.find text.now (tokenAt line.now 1)) (take-length table.now)))))))))))))))))))))))
+        by ! (exits r z (g text.now table.now (f ∙ ap (λ (x : List ℕ). Labels.find text.now x (take (length table.now) table.now)) e ∙ ap (Labels.find text.now (token_at line.now 1)) (take-length table.now)))))))))))))))))))))))
 
 module _ {M : Type 1} {𝓤 : Ura M} (𝓛 : Logic 𝓤) (mem : Memory → SProp 𝓤) (run : Routine → Fun 𝓤) where
   open 𝓛 use {H}

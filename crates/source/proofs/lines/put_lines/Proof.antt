@@ -5,9 +5,9 @@ use Prim.Native.Nat.{◌-◌, ◌≤◌}
 use lib.ListN.{length, drop}
 use Rattle.pen.specs.Pen.{pen, wrote}
 use Rattle.text.specs.Lines.{ended}
-use Rattle.source.specs.Words.{instructionOf}
+use Rattle.source.specs.Words.{instruction_of}
 use Rattle.source.specs.Source.{lines_of}
-use Rattle.source.specs.Marks.{usedIn}
+use Rattle.source.specs.Marks.{used_in}
 use Rattle.source.proofs.LineLaws.{lines_more, lines-no-more}
 use borrow.Author.Rules.{rules}
 use Rattle.source.proofs.lines.put_lines.Statement.{statement}
@@ -16,7 +16,7 @@ use Rattle.source.proofs.lines.put_lines.Tie as tie
 abbrev invariant-loop : tie.invariant-loop
 invariant-loop out₀ words used p₀ k₀ out p k =
     (k ≤ length words) × (length out ≡ length out₀) ×
-    (wrote (pen out₀ 0) (ended (lines_of (usedIn used) (length words) 0 (map instructionOf words))) ≡ wrote (pen out p) (ended (lines_of (usedIn used) (length words) k (map instructionOf (drop k words)))))
+    (wrote (pen out₀ 0) (ended (lines_of (used_in used) (length words) 0 (map instruction_of words))) ≡ wrote (pen out p) (ended (lines_of (used_in used) (length words) k (map instruction_of (drop k words)))))
 
 abbrev decreases-loop : tie.decreases-loop
 decreases-loop out₀ words used p₀ k₀ out p k = length words - k
@@ -54,7 +54,7 @@ loop-again c =
     let s = c.before.before.before.before.before.before.before.before.before.before.before.before.before.before.before.args in (
       search rules,
       c.before.before.put-line.auto.0 ∙ c.before.before.before.before.before.before.before.before.put-label.auto.0 ∙ h.invariant.1,
-      h.invariant.2 ∙ lines_more (usedIn s.used.now) (length s.words.now) (pen h.out h.p) s.words.now h.k c.before.before.before.before.before.before.before.before.before.before.loop-test.true c.before.before.before.before.before.before.before.before.put-label.ensures (c.before.before.put-line.ensures ∙ rw c.before.before.before.instruction-of.ensures),
+      h.invariant.2 ∙ lines_more (used_in s.used.now) (length s.words.now) (pen h.out h.p) s.words.now h.k c.before.before.before.before.before.before.before.before.before.before.loop-test.true c.before.before.before.before.before.before.before.before.put-label.ensures (c.before.before.put-line.ensures ∙ rw c.before.before.before.instruction-of.ensures),
     )
 
 same_length : tie.Need-same-length invariant-loop decreases-loop
@@ -64,7 +64,7 @@ returns : tie.Need-returns invariant-loop decreases-loop
 returns c =
     let h = c.before.loop in
     let s = c.before.before.before.before.before.args in
-    sym (h.invariant.2 ∙ lines-no-more (usedIn s.used.now) (length s.words.now) (pen h.out h.p) s.words.now h.k c.loop-test.false)
+    sym (h.invariant.2 ∙ lines-no-more (used_in s.used.now) (length s.words.now) (pen h.out h.p) s.words.now h.k c.loop-test.false)
 
 pub put-lines-spec : {M : Type 1} → statement M
 put-lines-spec =

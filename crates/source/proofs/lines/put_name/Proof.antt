@@ -1,6 +1,6 @@
 -- The letter and the digits are the definition's. Assumes nothing.
 use mathlib.Core.Path.{◌∙◌}
-use Rattle.source.specs.Source.{labelName}
+use Rattle.source.specs.Source.{label_name}
 use Rattle.pen.proofs.PenLaws.{joined}
 use borrow.Author.Rules.{rules}
 use Rattle.source.proofs.lines.put_name.Statement.{statement}
@@ -16,7 +16,7 @@ same_length : tie.Need-same-length
 same_length c = search rules
 
 returns : tie.Need-returns
-unfolding labelName
+unfolding label_name
 returns c = c.before.before.hex.ensures ∙ rw (c.before.before.before.before.before.before.put.ensures, joined)
 
 pub put-name-spec : {M : Type 1} → statement M

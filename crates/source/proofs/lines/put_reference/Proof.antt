@@ -1,6 +1,6 @@
 -- The pieces are the definition's, in its order. Assumes nothing.
 use mathlib.Core.Path.{◌∙◌}
-use Rattle.source.specs.Source.{referLine}
+use Rattle.source.specs.Source.{refer_line}
 use Rattle.pen.proofs.PenLaws.{joined}
 use borrow.Author.Rules.{rules}
 use Rattle.source.proofs.lines.put_reference.Statement.{statement}
@@ -19,7 +19,7 @@ same_length : tie.Need-same-length
 same_length c = search rules
 
 returns : tie.Need-returns
-unfolding referLine
+unfolding refer_line
 returns c = c.before.before.put-name.ensures ∙ rw (c.before.before.before.before.before.before.put.ensures, c.before.before.before.before.before.before.before.before.before.before.put-reference-name.ensures) (simp joined)
 
 pub put-reference-spec : {M : Type 1} → statement M

@@ -3,7 +3,7 @@ use mathlib.Core.Path.{◌≡◌, refl, sym, ◌∙◌}
 use mathlib.Core.List.{map}
 use Prim.Native.Nat.{◌-◌, ◌≤◌}
 use lib.ListN.{length, drop}
-use Rattle.source.specs.Words.{instructionOf}
+use Rattle.source.specs.Words.{instruction_of}
 use Rattle.source.specs.Marks.{marked}
 use Rattle.source.proofs.MarkLaws.{mark-more, mark-no-more}
 use borrow.Author.Rules.{rules}
@@ -11,7 +11,7 @@ use Rattle.source.proofs.marks.mark_all.Statement.{statement}
 use Rattle.source.proofs.marks.mark_all.Tie as tie
 
 abbrev invariant-loop : tie.invariant-loop
-invariant-loop words used₀ i₀ used i = (i ≤ length words) × (length used ≡ length used₀) × (marked (map instructionOf words) used₀ ≡ marked (map instructionOf (drop i words)) used)
+invariant-loop words used₀ i₀ used i = (i ≤ length words) × (length used ≡ length used₀) × (marked (map instruction_of words) used₀ ≡ marked (map instruction_of (drop i words)) used)
 
 abbrev decreases-loop : tie.decreases-loop
 decreases-loop words used₀ i₀ used i = length words - i

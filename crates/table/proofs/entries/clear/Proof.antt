@@ -125,13 +125,13 @@ module _ {M : Type 1} {𝓤 : Ura M} (𝓛 : Logic 𝓤) (mem : Memory → SProp
   Table zs = Owned T.the_row tb κ zs
 
   -- what the walk holds on to: what the table owns, and its token
-  abbrev Holds-on : List Label → List (Item 𝓤) → List (Item 𝓤)
-  Holds-on zs Γ = ‵ (Table zs) ∷ ‵ (flft κ q) ∷ Γ
+  abbrev HoldsOn : List Label → List (Item 𝓤) → List (Item 𝓤)
+  HoldsOn zs Γ = ‵ (Table zs) ∷ ‵ (flft κ q) ∷ Γ
 
   -- what is had where the loop has ended gives what the contract says at exit
-  exits : (zs : List Label) → length zs ≡ n → zs ≡ cleared → ent 𝓤 (⋆ 𝓛 (Holds-on zs [])) (Post vunit)
+  exits : (zs : List Label) → length zs ≡ n → zs ≡ cleared → ent 𝓤 (⋆ 𝓛 (HoldsOn zs [])) (Post vunit)
   exits zs same is =
-      qed 𝓛 (Holds-on zs []) ∵
+      qed 𝓛 (HoldsOn zs []) ∵
       suffices ! _ (ends_at 𝓛 clear.ended stayed (clear.clauses 𝓛 mem run) bound vunit tt (zs, (tt, tt)) (same, (tt, tt))) $ says ! is $
       nothing ! $ move ! (2 ∷ 0 ∷ []) $ join ! $ frame ! $
       nothing ! $ owned ! usize (Is usize) (uint_Makes 𝓛 w64) from (vint w64 from ∷ []) (refl, gf) $ fjoin ! $ move ! (1 ∷ 0 ∷ []) $ fjoin ! $ frame ! $
@@ -139,7 +139,7 @@ module _ {M : Type 1} {𝓤 : Ura M} (𝓛 : Logic 𝓤) (mem : Memory → SProp
 
   -- ---- the walk
   module _ (𝓣 : Tables 𝓤 H) (met-define : Triple 𝓤 (𝓣.C #define) (Stores 𝓛 mem run)) (gt : Room T.the_row n)
-      (Kf : Val → SProp 𝓤) (out : (zs : List Label) → length zs ≡ n → zs ≡ cleared → ent 𝓤 (⋆ 𝓛 (Holds-on zs [])) (Kf vunit)) where
+      (Kf : Val → SProp 𝓤) (out : (zs : List Label) → length zs ≡ n → zs ≡ cleared → ent 𝓤 (⋆ 𝓛 (HoldsOn zs [])) (Kf vunit)) where
     abbrev C : Calls 𝓤 H
     C = 𝓣.C
 
@@ -153,7 +153,7 @@ module _ {M : Type 1} {𝓤 : Ura M} (𝓛 : Logic 𝓤) (mem : Memory → SProp
       -- where a turn begins: the turn's own locals have no value
       -- [the table; its token; _9; …; _8; …; _7; …; _6; …; _5; …; _4; …; _3; …; _2; …; _1; …; room for _0; …]
       abbrev At : ℕ → List Label → List (Item 𝓤)
-      At i zs = Holds-on zs (‵ (froom (slice_ty again) l₉ 0) ∷ ‵ (fdies (slice_ty again) l₉) ∷ ‵ (froom again l₈ 0) ∷ ‵ (fdies again l₈) ∷ ‵ (froom ty_unit l₇ 0) ∷ ‵ (fdies ty_unit l₇)
+      At i zs = HoldsOn zs (‵ (froom (slice_ty again) l₉ 0) ∷ ‵ (fdies (slice_ty again) l₉) ∷ ‵ (froom again l₈ 0) ∷ ‵ (fdies again l₈) ∷ ‵ (froom ty_unit l₇ 0) ∷ ‵ (fdies ty_unit l₇)
           ∷ ‵ (froom ty_bool l₆ 0) ∷ ‵ (fdies ty_bool l₆) ∷ ‵ (froom word l₅ 0) ∷ ‵ (fdies word l₅) ∷ ‵ (fat full_share word l₄ 0 (vint w64 i)) ∷ ‵ (fdies word l₄)
           ∷ ‵ (fat full_share T'.mir l₃ 0 (T'.lowered no_label)) ∷ ‵ (fdies T'.mir l₃) ∷ ‵ (fat full_share word l₂ 0 (vint w64 from)) ∷ ‵ (fdies word l₂) ∷ ‵ (fat full_share table l₁ 0 s) ∷ ‵ (fdies table l₁)
           ∷ ‵ (froom ty_unit l₀ 0) ∷ ‵ (fdies ty_unit l₀) ∷ [])
@@ -195,7 +195,7 @@ module _ {M : Type 1} {𝓤 : Ura M} (𝓛 : Logic 𝓤) (mem : Memory → SProp
           keep ! (0 ∷ 1 ∷ 4 ∷ 5 ∷ 6 ∷ 7 ∷ 8 ∷ 9 ∷ 10 ∷ 11 ∷ 12 ∷ 13 ∷ 14 ∷ 15 ∷ 16 ∷ 17 ∷ 18 ∷ 19 ∷ 20 ∷ 21 ∷ 22 ∷ 23 ∷ []) $ by ! k))))))))
 
       -- the turn that leaves the loop, and the rest of the body
-      ends : (i : ℕ) (zs : List Label) (X : SProp 𝓤) → ltb i n ≡ false → ent 𝓤 (⋆ 𝓛 (Holds-on zs [])) (Kf vunit) → ent 𝓤 (⋆ 𝓛 (At i zs)) (Wp 𝓤 H C Λ En text.turn-1 (after_turn 𝓤 H X Left))
+      ends : (i : ℕ) (zs : List Label) (X : SProp 𝓤) → ltb i n ≡ false → ent 𝓤 (⋆ 𝓛 (HoldsOn zs [])) (Kf vunit) → ent 𝓤 (⋆ 𝓛 (At i zs)) (Wp 𝓤 H C Λ En text.turn-1 (after_turn 𝓤 H X Left))
       unfolding after_turn
       ends i zs X past k =
           qed 𝓛 (At i zs) ∵ exec ! C Λ En text.turn-1 (any_q (after_turn 𝓤 H X Left)) $
@@ -247,7 +247,7 @@ module _ {M : Type 1} {𝓤 : Ura M} (𝓛 : Logic 𝓤) (mem : Memory → SProp
       Entered = ‵ (froom (slice_ty again) l₉ 0) ∷ ‵ (fdies (slice_ty again) l₉) ∷ ‵ (froom again l₈ 0) ∷ ‵ (fdies again l₈) ∷ ‵ (froom ty_unit l₇ 0) ∷ ‵ (fdies ty_unit l₇)
           ∷ ‵ (froom ty_bool l₆ 0) ∷ ‵ (fdies ty_bool l₆) ∷ ‵ (froom word l₅ 0) ∷ ‵ (fdies word l₅) ∷ ‵ (froom word l₄ 0) ∷ ‵ (fdies word l₄)
           ∷ ‵ (froom T'.mir l₃ 0) ∷ ‵ (fdies T'.mir l₃) ∷ ‵ (fat full_share word l₂ 0 (vint w64 from)) ∷ ‵ (fdies word l₂) ∷ ‵ (fat full_share table l₁ 0 s) ∷ ‵ (fdies table l₁)
-          ∷ ‵ (froom ty_unit l₀ 0) ∷ ‵ (fdies ty_unit l₀) ∷ Holds-on ys []
+          ∷ ‵ (froom ty_unit l₀ 0) ∷ ‵ (fdies ty_unit l₀) ∷ HoldsOn ys []
 
       -- the body, from where the arguments are stored
       starts : Sq 𝓛 Entered (runs C Λ En text.t-1 (at_ret En Kf))
@@ -257,9 +257,9 @@ module _ {M : Type 1} {𝓤 : Ura M} (𝓛 : Logic 𝓤) (mem : Memory → SProp
           keep ! (20 ∷ 21 ∷ 0 ∷ 1 ∷ 2 ∷ 3 ∷ 4 ∷ 5 ∷ 6 ∷ 7 ∷ 8 ∷ 9 ∷ 10 ∷ 11 ∷ 12 ∷ 13 ∷ 14 ∷ 15 ∷ 16 ∷ 17 ∷ 18 ∷ 19 ∷ []) $ by ! loops
 
     -- the locals are made and the arguments stored, whatever is to be shown of the result
-    enters : ent 𝓤 (⋆ 𝓛 (Holds-on ys [])) (WpFn 𝓤 H C Λ code.function (s ∷ vint w64 from ∷ []) Kf)
+    enters : ent 𝓤 (⋆ 𝓛 (HoldsOn ys [])) (WpFn 𝓤 H C Λ code.function (s ∷ vint w64 from ∷ []) Kf)
     enters =
-        qed 𝓛 (Holds-on ys []) ∵ enter ! C Λ code.function (s ∷ vint w64 from ∷ []) Kf $
+        qed 𝓛 (HoldsOn ys []) ∵ enter ! C Λ code.function (s ∷ vint w64 from ∷ []) Kf $
         alloc1 ! (λ l₀. alloc1 ! (λ l₁. alloc1 ! (λ l₂. alloc1 ! (λ l₃. alloc1 ! (λ l₄. alloc1 ! (λ l₅. alloc1 ! (λ l₆. alloc1 ! (λ l₇. alloc1 ! (λ l₈. alloc1 ! (λ l₉. alloc0 ! $ params1 ! $
         pass1 ! (init ! 16 refl (tt, (tt, (record { fits = gt.0 }, tt)))) $ pass1 ! (init ! 14 refl (tt, record { fits = gf })) $ pass0 ! $
         starts l₀ l₁ l₂ l₃ l₄ l₅ l₆ l₇ l₈ l₉))))))))))

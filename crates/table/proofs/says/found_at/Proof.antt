@@ -1,8 +1,8 @@
 -- The entry is the answer, with its address, exactly where `names` says yes. Assumes nothing.
 use mathlib.Core.Path.{◌≡◌, sym, ◌∙◌}
 use mathlib.Core.Bool.{true, false}
-use Rattle.labels.specs.Labels.{isNamed}
-use Rattle.table.specs.Table.{foundAt}
+use Rattle.labels.specs.Labels.{is_named}
+use Rattle.table.specs.Table.{found_at}
 use borrow.Author.Rules.{rules}
 use Rattle.table.proofs.says.found_at.Statement.{statement}
 use Rattle.table.proofs.says.found_at.Tie as tie
@@ -11,17 +11,17 @@ names-requires : tie.Need-names-requires
 names-requires c κs = search rules
 
 returns : tie.Need-returns
-unfolding foundAt
+unfolding found_at
 returns c =
     let s = c.before.before.before.before.args in
-    let e : isNamed s.text.now s.name.now s.l ≡ true = sym c.before.names.ensures ∙ c.if1.true in
+    let e : is_named s.text.now s.name.now s.l ≡ true = sym c.before.names.ensures ∙ c.if1.true in
     rw e
 
 returns-2 : tie.Need-returns-2
-unfolding foundAt
+unfolding found_at
 returns-2 c =
     let s = c.before.before.before.before.args in
-    let e : isNamed s.text.now s.name.now s.l ≡ false = sym c.before.names.ensures ∙ c.if1.false in
+    let e : is_named s.text.now s.name.now s.l ≡ false = sym c.before.names.ensures ∙ c.if1.false in
     rw e
 
 pub found-at-spec : {M : Type 1} → statement M

@@ -4,12 +4,12 @@ use lib.Dec.{eqb, leb}
 use mathlib.Core.Bool.{false}
 use mathlib.Core.Path.{◌≡◌}
 use native.Mathlib.Omega.{arith}
-use Rattle.text.specs.Parts.{isBlank}
+use Rattle.text.specs.Parts.{is_blank}
 use Rattle.text.proofs.blanks.is_blank.Statement.{statement}
 use Rattle.text.proofs.blanks.is_blank.Tie as tie
 
 returns : tie.Need-returns
-unfolding isBlank
+unfolding is_blank
 returns c =
     let b = c.before.args.b in
     let low : leb 9 b ≡ false = lt-leb 9 b c.if1.true in
@@ -17,13 +17,13 @@ returns c =
     rw (low, not-space)
 
 returns-2 : tie.Need-returns-2
-unfolding isBlank
+unfolding is_blank
 returns-2 c =
     let b = c.before.before.args.b in
     rw (le-leb 9 b c.before.if1.false, le-leb b 13 c.if2.true)
 
 returns-3 : tie.Need-returns-3
-unfolding isBlank
+unfolding is_blank
 returns-3 c =
     let b = c.before.before.args.b in
     rw (le-leb 9 b c.before.if1.false, lt-leb b 13 c.if2.false)

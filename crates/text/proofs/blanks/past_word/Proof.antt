@@ -5,7 +5,7 @@ use mathlib.Core.Bool.{false, not, true}
 use mathlib.Core.Path.{◌∙◌, ◌≡◌, ap, sym}
 use native.Mathlib.Omega.{arith}
 use Rattle.text.proofs.PartLaws.{run_end, run_step, run-stop}
-use Rattle.text.specs.Parts.{notBlank, run}
+use Rattle.text.specs.Parts.{not_blank, run}
 use Rattle.text.proofs.blanks.past_word.Statement.{statement}
 use Rattle.text.proofs.blanks.past_word.Tie as tie
 use Rattle.text.proofs.blanks.past_word.Reads as reads
@@ -13,7 +13,7 @@ use Rattle.text.proofs.blanks.past_word.Lts as lts
 use Rattle.text.proofs.blanks.is_blank.Reads as is-blank-reads
 
 abbrev invariant-loop : tie.invariant-loop
-invariant-loop s from i₀ i = (i ≤ length s) × (i + run notBlank (drop i s) ≡ from + run notBlank (drop from s))
+invariant-loop s from i₀ i = (i ≤ length s) × (i + run not_blank (drop i s) ≡ from + run not_blank (drop from s))
 
 abbrev decreases-loop : tie.decreases-loop
 decreases-loop s from i₀ i = length s - i
@@ -30,9 +30,9 @@ is-blank-requires c κs = search rules
 returns : tie.Need-returns invariant-loop decreases-loop
 returns c =
     let at = c.before.before.before.before in
-    let stop : notBlank (get_or at.before.before.args.s.now at.loop.i 0) ≡ false = ap not (sym c.before.is-blank.ensures ∙ c.if1.true) in
+    let stop : not_blank (get_or at.before.before.args.s.now at.loop.i 0) ≡ false = ap not (sym c.before.is-blank.ensures ∙ c.if1.true) in
     let h : at.loop.i < length at.before.before.args.s.now = search rules in
-    (omega (arith, run-stop notBlank at.before.before.args.s.now at.loop.i h stop), search rules)
+    (omega (arith, run-stop not_blank at.before.before.args.s.now at.loop.i h stop), search rules)
 
 add-i : tie.Need-overflow-add-i invariant-loop decreases-loop
 add-i c = search rules
@@ -43,12 +43,12 @@ loop-less c = search rules
 loop-again : tie.Need-loop-preserved invariant-loop decreases-loop
 loop-again c =
     let at = c.before.before.before.before in
-    let go : notBlank (get_or at.before.before.args.s.now at.loop.i 0) ≡ true = ap not (sym c.before.is-blank.ensures ∙ c.if1.false) in
+    let go : not_blank (get_or at.before.before.args.s.now at.loop.i 0) ≡ true = ap not (sym c.before.is-blank.ensures ∙ c.if1.false) in
     let h : at.loop.i < length at.before.before.args.s.now = search rules in
-    (search rules, omega (arith, run_step notBlank at.before.before.args.s.now at.loop.i h go))
+    (search rules, omega (arith, run_step not_blank at.before.before.args.s.now at.loop.i h go))
 
 returns-2 : tie.Need-returns-2 invariant-loop decreases-loop
-returns-2 c = (omega (arith, run_end notBlank c.before.before.before.args.s.now c.before.loop.i c.loop-test.false), search rules)
+returns-2 c = (omega (arith, run_end not_blank c.before.before.before.args.s.now c.before.loop.i c.loop-test.false), search rules)
 
 pub past-word-spec : {M : Type 1} → statement M
 past-word-spec =

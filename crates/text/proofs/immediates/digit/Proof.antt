@@ -2,14 +2,14 @@
 use native.Mathlib.Omega.{arith}
 use borrow.Author.Tests.{le-leb, lt-leb}
 use borrow.Author.Rules.{rules}
-use Rattle.text.specs.Immediates.{digitOf}
+use Rattle.text.specs.Immediates.{digit_of}
 use Rattle.text.proofs.immediates.digit.Statement.{statement}
 use Rattle.text.proofs.immediates.digit.Tie as tie
 use Rattle.text.proofs.immediates.digit.Reads as reads
 use Rattle.text.proofs.immediates.digit.Lts as lts
 
 returns : tie.Need-returns
-unfolding digitOf
+unfolding digit_of
 returns c =
     let b = c.before.args.b in
     (rw (lt-leb 48 b (omega arith), lt-leb 65 b (omega arith), lt-leb 97 b (omega arith)), search rules)
@@ -18,13 +18,13 @@ cast-result : tie.Need-overflow-cast-result
 cast-result c = search rules
 
 returns-2 : tie.Need-returns-2
-unfolding digitOf
+unfolding digit_of
 returns-2 c =
     let b = c.before.before.args.b in
     (rw (le-leb 48 b (omega arith), le-leb b 57 (omega arith)), search rules)
 
 returns-3 : tie.Need-returns-3
-unfolding digitOf
+unfolding digit_of
 returns-3 c =
     let b = c.before.before.before.args.b in
     (rw (le-leb 48 b (omega arith), lt-leb b 57 (omega arith), lt-leb 65 b (omega arith), lt-leb 97 b (omega arith)), search rules)
@@ -36,13 +36,13 @@ cast-result-2 : tie.Need-overflow-cast-result-2
 cast-result-2 c = search rules
 
 returns-4 : tie.Need-returns-4
-unfolding digitOf
+unfolding digit_of
 returns-4 c =
     let b = c.before.before.before.before.args.b in
     (rw (le-leb 48 b (omega arith), lt-leb b 57 (omega arith), le-leb 65 b (omega arith), le-leb b 70 (omega arith)), search rules)
 
 returns-5 : tie.Need-returns-5
-unfolding digitOf
+unfolding digit_of
 returns-5 c =
     let b = c.before.before.before.before.before.args.b in
     (rw (le-leb 48 b (omega arith), lt-leb b 57 (omega arith), le-leb 65 b (omega arith), lt-leb b 70 (omega arith), lt-leb 97 b (omega arith)), search rules)
@@ -54,13 +54,13 @@ cast-result-3 : tie.Need-overflow-cast-result-3
 cast-result-3 c = search rules
 
 returns-6 : tie.Need-returns-6
-unfolding digitOf
+unfolding digit_of
 returns-6 c =
     let b = c.before.before.before.before.before.before.args.b in
     (rw (le-leb 48 b (omega arith), lt-leb b 57 (omega arith), le-leb 65 b (omega arith), lt-leb b 70 (omega arith), le-leb 97 b (omega arith), le-leb b 102 (omega arith)), search rules)
 
 returns-7 : tie.Need-returns-7
-unfolding digitOf
+unfolding digit_of
 returns-7 c =
     let b = c.before.before.before.before.before.before.args.b in
     (rw (le-leb 48 b (omega arith), lt-leb b 57 (omega arith), le-leb 65 b (omega arith), lt-leb b 70 (omega arith), le-leb 97 b (omega arith), lt-leb b 102 (omega arith)), search rules)

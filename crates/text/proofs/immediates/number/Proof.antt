@@ -5,7 +5,7 @@ use mathlib.Core.Path.{◌∙◌, ◌≡◌, ap, sym}
 use native.Mathlib.Nat.{mul-le-mul}
 use native.Mathlib.Omega.{arith}
 use Rattle.text.proofs.ImmediateLaws.{num-bad, num-end, num-none, num-over, num-some, num-step}
-use Rattle.text.specs.Immediates.{digitOf, digits, digitsFrom}
+use Rattle.text.specs.Immediates.{digit_of, digits, digits_from}
 use Rattle.text.proofs.immediates.number.Statement.{statement}
 use Rattle.text.proofs.immediates.number.Tie as tie
 use Rattle.text.proofs.immediates.number.Reads as reads
@@ -13,7 +13,7 @@ use Rattle.text.proofs.immediates.number.Lts as lts
 use Rattle.text.proofs.immediates.digit.Reads as digit-reads
 
 abbrev invariant-loop : tie.invariant-loop
-invariant-loop s base v₀ i₀ v i = (i ≤ length s) × (v ≤ 65535) × (digitsFrom base v (drop i s) ≡ digits base s)
+invariant-loop s base v₀ i₀ v i = (i ≤ length s) × (v ≤ 65535) × (digits_from base v (drop i s) ≡ digits base s)
 
 abbrev decreases-loop : tie.decreases-loop
 decreases-loop s base v₀ i₀ v i = length s - i
@@ -35,7 +35,7 @@ returns-2 c =
     let at = c.before.before.before.before in
     let s = at.before.before.before.args.s.now in
     let base = at.before.before.before.args.base in
-    let d : base ≤ digitOf (get_or s at.loop.i 0) = omega arith in
+    let d : base ≤ digit_of (get_or s at.loop.i 0) = omega arith in
     sym (sym at.loop.invariant.2 ∙ num-bad base s at.loop.v at.loop.i (search rules) d)
 
 mul-v : tie.Need-overflow-mul-v invariant-loop decreases-loop
@@ -59,8 +59,8 @@ returns-3 c =
     let at = c.before.before.before.before.before in
     let s = at.before.before.before.args.s.now in
     let base = at.before.before.before.args.base in
-    let d : digitOf (get_or s at.loop.i 0) < base = omega arith in
-    let v = at.loop.v * base + digitOf (get_or s at.loop.i 0) in
+    let d : digit_of (get_or s at.loop.i 0) < base = omega arith in
+    let v = at.loop.v * base + digit_of (get_or s at.loop.i 0) in
     let o : 65535 < v = omega arith in
     sym (sym at.loop.invariant.2 ∙ num-step base s at.loop.v at.loop.i (search rules) d ∙ num-over base (search rules) v o (drop (at.loop.i + 1) s))
 
@@ -75,11 +75,11 @@ loop-again c =
     let at = c.before.before.before.before.before in
     let s = at.before.before.before.args.s.now in
     let base = at.before.before.before.args.base in
-    let d : digitOf (get_or s at.loop.i 0) < base = omega arith in
-    let e : at.loop.v * base + c.before.before.digit.result ≡ at.loop.v * base + digitOf (get_or s at.loop.i 0) = omega arith in (
+    let d : digit_of (get_or s at.loop.i 0) < base = omega arith in
+    let e : at.loop.v * base + c.before.before.digit.result ≡ at.loop.v * base + digit_of (get_or s at.loop.i 0) = omega arith in (
       search rules,
       search rules,
-      ap (λ (k : ℕ). digitsFrom base k (drop (at.loop.i + 1) s)) e ∙ sym (num-step base s at.loop.v at.loop.i (search rules) d) ∙ at.loop.invariant.2,
+      ap (λ (k : ℕ). digits_from base k (drop (at.loop.i + 1) s)) e ∙ sym (num-step base s at.loop.v at.loop.i (search rules) d) ∙ at.loop.invariant.2,
     )
 
 cast-t16 : tie.Need-overflow-cast-t16 invariant-loop decreases-loop

@@ -2,7 +2,7 @@ use borrow.Author.Rules.{rules}
 use mathlib.Core.Path.{◌∙◌, ap, sym}
 use Rattle.text.proofs.ImmediateLaws.{hex-long, value-dec, value-hex}
 use Rattle.text.proofs.PartLaws.{rest}
-use Rattle.text.specs.Immediates.{afterPlus, digits}
+use Rattle.text.specs.Immediates.{after_plus, digits}
 use Rattle.text.proofs.immediates.value.Statement.{statement}
 use Rattle.text.proofs.immediates.value.Tie as tie
 use Rattle.text.proofs.immediates.value.Reads as reads
@@ -32,7 +32,7 @@ number-requires c κs = search rules
 returns : tie.Need-returns
 returns c =
     let s = c.before.before.before.before.before.before.args.s.now in
-    c.number.ensures ∙ ap (digits 16) (c.before.after_plus.ensures ∙ ap afterPlus (rest 2 s)) ∙
+    c.number.ensures ∙ ap (digits 16) (c.before.after_plus.ensures ∙ ap after_plus (rest 2 s)) ∙
     value-hex s (sym c.before.before.before.before.is-hex.ensures ∙ c.before.before.before.if1.true)
 
 after-plus-requires-2 : tie.Need-after-plus-requires-2

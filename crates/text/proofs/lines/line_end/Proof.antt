@@ -6,7 +6,7 @@ use mathlib.Core.Bool.{not}
 use mathlib.Core.Path.{◌≡◌, ap}
 use native.Mathlib.Omega.{arith}
 use Rattle.text.proofs.PartLaws.{run_end, run_step, run-stop}
-use Rattle.text.specs.Lines.{notEnd}
+use Rattle.text.specs.Lines.{not_end}
 use Rattle.text.specs.Parts.{run}
 use Rattle.text.proofs.lines.line_end.Statement.{statement}
 use Rattle.text.proofs.lines.line_end.Tie as tie
@@ -14,7 +14,7 @@ use Rattle.text.proofs.lines.line_end.Reads as reads
 use Rattle.text.proofs.lines.line_end.Lts as lts
 
 abbrev invariant-loop : tie.invariant-loop
-invariant-loop s from i₀ i = (i ≤ length s) × (i + run notEnd (drop i s) ≡ from + run notEnd (drop from s))
+invariant-loop s from i₀ i = (i ≤ length s) × (i + run not_end (drop i s) ≡ from + run not_end (drop from s))
 
 abbrev decreases-loop : tie.decreases-loop
 decreases-loop s from i₀ i = length s - i
@@ -31,7 +31,7 @@ returns c =
     let s = at.before.args.s.now in
     let i = at.loop.i in
     let h : i < length s = search rules in
-    (omega (arith, run-stop notEnd s i h (ap not (eq-eqb _ _ c.if1.true))), search rules)
+    (omega (arith, run-stop not_end s i h (ap not (eq-eqb _ _ c.if1.true))), search rules)
 
 add-i : tie.Need-overflow-add-i invariant-loop decreases-loop
 add-i c = search rules
@@ -45,14 +45,14 @@ loop-again c =
     let s = at.before.args.s.now in
     let i = at.loop.i in
     let h : i < length s = search rules in
-    (search rules, omega (arith, run_step notEnd s i h (ap not (ne_eqb _ _ c.if1.false))))
+    (search rules, omega (arith, run_step not_end s i h (ap not (ne_eqb _ _ c.if1.false))))
 
 returns-2 : tie.Need-returns-2 invariant-loop decreases-loop
 returns-2 c =
     let at = c.before in
     let s = at.before.args.s.now in
     let i = at.loop.i in
-    (omega (arith, run_end notEnd s i c.loop-test.false), search rules)
+    (omega (arith, run_end not_end s i c.loop-test.false), search rules)
 
 pub line-end-spec : {M : Type 1} → statement M
 line-end-spec =

@@ -5,20 +5,20 @@ use lib.ListN.{length, take}
 use lib.Seq.{length-take-le, take-length}
 use mathlib.Core.Path.{◌∙◌, ◌≡◌, ap, sym}
 use Rattle.text.proofs.PartLaws.{end_step, end-stop, zero-front}
-use Rattle.text.specs.Parts.{dropEnd, equals}
+use Rattle.text.specs.Parts.{drop_end, equals}
 use Rattle.text.proofs.parts.drop_final.Statement.{statement}
 use Rattle.text.proofs.parts.drop_final.Tie as tie
 use Rattle.text.proofs.parts.drop_final.Reads as reads
 use Rattle.text.proofs.parts.drop_final.Lts as lts
 
 abbrev invariant-loop : tie.invariant-loop
-invariant-loop s b e₀ e = (e ≤ length s) × (dropEnd (equals b) (take e s) ≡ dropEnd (equals b) s)
+invariant-loop s b e₀ e = (e ≤ length s) × (drop_end (equals b) (take e s) ≡ drop_end (equals b) s)
 
 abbrev decreases-loop : tie.decreases-loop
 decreases-loop s b e₀ e = e
 
 loop-holds : tie.Need-loop-init invariant-loop decreases-loop
-loop-holds c = (search rules, ap (dropEnd (equals c.args.b)) (take-length c.args.s.now))
+loop-holds c = (search rules, ap (drop_end (equals c.args.b)) (take-length c.args.s.now))
 
 sub-if1 : tie.Need-overflow-sub-if1 invariant-loop decreases-loop
 sub-if1 c = search rules

@@ -4,7 +4,7 @@ use lib.ListN.{drop}
 use lib.Seq.{drop-drop}
 use mathlib.Core.Path.{◌∙◌, ◌≡◌, ap, sym}
 use native.Mathlib.Omega.{arith}
-use Rattle.text.specs.Parts.{dropFront, isBlank, notBlank, run}
+use Rattle.text.specs.Parts.{drop_front, is_blank, not_blank, run}
 use Rattle.text.proofs.tokens.past_token.Statement.{statement}
 use Rattle.text.proofs.tokens.past_token.Tie as tie
 use Rattle.text.proofs.tokens.past_token.Reads as reads
@@ -23,8 +23,8 @@ returns c =
     let w = c.before.before.before.args in
     let s = w.line.now in
     let a = c.before.past-blanks.result in
-    let ea : drop a s ≡ dropFront isBlank (drop w.at s) = ap (λ (k : ℕ). drop k s) c.before.past-blanks.ensures.0 ∙ sym (drop-drop _ w.at s) in
-    (omega (arith, ap (run notBlank) ea), search rules)
+    let ea : drop a s ≡ drop_front is_blank (drop w.at s) = ap (λ (k : ℕ). drop k s) c.before.past-blanks.ensures.0 ∙ sym (drop-drop _ w.at s) in
+    (omega (arith, ap (run not_blank) ea), search rules)
 
 pub past-token-spec : {M : Type 1} → statement M
 past-token-spec = tie.close (tie.spec past-blanks-requires past-word-requires returns)

@@ -5,8 +5,8 @@ use borrow.Author.Rules.{rules}
 use lib.ListN.{drop}
 use mathlib.Core.Path.{◌∙◌, ◌≡◌, ap}
 use native.Mathlib.Omega.{arith}
-use Rattle.text.specs.Parts.{isBlank, run}
-use Rattle.text.specs.Tokens.{pastFirst}
+use Rattle.text.specs.Parts.{is_blank, run}
+use Rattle.text.specs.Tokens.{past_first}
 use Rattle.text.proofs.tokens.second_start.Statement.{statement}
 use Rattle.text.proofs.tokens.second_start.Tie as tie
 use Rattle.text.proofs.tokens.second_start.Reads as reads
@@ -25,8 +25,8 @@ past-blanks-requires c κs = search rules
 returns : tie.Need-returns
 returns c =
     let s = c.before.before.before.args.line.now in
-    let e : c.before.past-token.result ≡ pastFirst s = omega (arith, c.before.past-token.ensures.0) in
-    (c.past-blanks.ensures.0 ∙ ap (λ (k : ℕ). k + run isBlank (drop k s)) e, search rules)
+    let e : c.before.past-token.result ≡ past_first s = omega (arith, c.before.past-token.ensures.0) in
+    (c.past-blanks.ensures.0 ∙ ap (λ (k : ℕ). k + run is_blank (drop k s)) e, search rules)
 
 pub second-start-spec : {M : Type 1} → statement M
 second-start-spec = tie.close (tie.spec past-token-requires past-blanks-requires returns)

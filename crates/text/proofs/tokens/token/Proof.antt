@@ -5,7 +5,7 @@ use lib.Seq.{drop-drop}
 use mathlib.Core.Path.{◌∙◌, ◌≡◌, ap, sym}
 use native.Mathlib.Omega.{arith}
 use Rattle.text.proofs.TokenLaws.{tail-drop, tok-tail}
-use Rattle.text.specs.Tokens.{first, others, pastFirst, tokens}
+use Rattle.text.specs.Tokens.{first, others, past_first, tokens}
 use Rattle.text.proofs.tokens.token.Statement.{statement}
 use Rattle.text.proofs.tokens.token.Tie as tie
 use Rattle.text.proofs.tokens.token.Reads as reads
@@ -38,7 +38,7 @@ loop-again c =
     let a = at.loop.at in (
       search rules,
       search rules,
-      ap (λ (k : ℕ). tokens (drop k s)) c.past-token.ensures.0 ∙ ap tokens (sym (drop-drop (pastFirst (drop a s)) a s)) ∙
+      ap (λ (k : ℕ). tokens (drop k s)) c.past-token.ensures.0 ∙ ap tokens (sym (drop-drop (past_first (drop a s)) a s)) ∙
           sym (tok-tail (drop a s)) ∙ ap others at.loop.invariant.2 ∙ tail-drop (tokens s) at.loop.i,
     )
 

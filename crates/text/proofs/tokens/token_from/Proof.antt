@@ -6,7 +6,7 @@ use mathlib.Core.List.{List}
 use mathlib.Core.Path.{◌∙◌, ◌≡◌, ap, sym}
 use native.Mathlib.Omega.{arith}
 use Rattle.text.proofs.TokenLaws.{tok-head}
-use Rattle.text.specs.Parts.{dropFront, isBlank, notBlank, run}
+use Rattle.text.specs.Parts.{drop_front, is_blank, not_blank, run}
 use Rattle.text.proofs.tokens.token_from.Statement.{statement}
 use Rattle.text.proofs.tokens.token_from.Tie as tie
 use Rattle.text.proofs.tokens.token_from.Reads as reads
@@ -34,10 +34,10 @@ returns c =
     let w = c.before.before.before.before.args in
     let s = w.line.now in
     let a = c.before.before.past-blanks.result in
-    let n = run notBlank (drop a s) in
-    let ea : drop a s ≡ dropFront isBlank (drop w.at s) = ap (λ (k : ℕ). drop k s) c.before.before.past-blanks.ensures.0 ∙ sym (drop-drop _ w.at s) in
+    let n = run not_blank (drop a s) in
+    let ea : drop a s ≡ drop_front is_blank (drop w.at s) = ap (λ (k : ℕ). drop k s) c.before.before.past-blanks.ensures.0 ∙ sym (drop-drop _ w.at s) in
     let en : c.before.past_word.result - a ≡ n = omega arith in
-    ap (λ (k : ℕ). take k (drop a s)) en ∙ ap (λ (l : List ℕ). take (run notBlank l) l) ea ∙ sym (tok-head (drop w.at s))
+    ap (λ (k : ℕ). take k (drop a s)) en ∙ ap (λ (l : List ℕ). take (run not_blank l) l) ea ∙ sym (tok-head (drop w.at s))
 
 pub token-from-spec : {M : Type 1} → statement M
 token-from-spec =

@@ -4,20 +4,20 @@ use mathlib.Core.Path.{◌≡◌, refl, sym, ap, ◌∙◌}
 use lib.ListN.{length, take, length-set}
 use lib.Seq.{take_all}
 use native.Mathlib.Omega.{arith}
-use Rattle.wordbytes.specs.Words.{wordsFrom}
+use Rattle.wordbytes.specs.Words.{words_from}
 use Rattle.wordbytes.proofs.Parts.{read_next}
 use borrow.Author.Rules.{rules}
 use Rattle.wordbytes.proofs.buffers.read_words.Statement.{statement}
 use Rattle.wordbytes.proofs.buffers.read_words.Tie as tie
 
 abbrev invariant-loop : tie.invariant-loop
-invariant-loop bytes words₀ n₀ words n = (n ≤ length words₀) × (length words ≡ length words₀) × (take n words ≡ wordsFrom n bytes)
+invariant-loop bytes words₀ n₀ words n = (n ≤ length words₀) × (length words ≡ length words₀) × (take n words ≡ words_from n bytes)
 
 abbrev decreases-loop : tie.decreases-loop
 decreases-loop bytes words₀ n₀ words n = length words₀ - n
 
 loop-holds : tie.Need-loop-init invariant-loop decreases-loop
-unfolding wordsFrom
+unfolding words_from
 loop-holds c = (search rules, refl, refl)
 
 mul-word-at : tie.Need-overflow-mul-word-at invariant-loop decreases-loop
@@ -56,7 +56,7 @@ returns c =
     let h = c.before.loop in
     let n : h.n ≡ length c.before.before.before.before.args.words.now = omega (arith, h.invariant.0, h.invariant.1, c.loop-test.false) in
     let e : length h.words ≤ h.n = omega (arith, c.loop-test.false) in
-    sym (take_all h.n h.words e) ∙ h.invariant.2 ∙ ap (λ k. wordsFrom k c.before.before.before.before.args.bytes.now) n
+    sym (take_all h.n h.words e) ∙ h.invariant.2 ∙ ap (λ k. words_from k c.before.before.before.before.args.bytes.now) n
 
 pub read-words-spec : {M : Type 1} → statement M
 read-words-spec =

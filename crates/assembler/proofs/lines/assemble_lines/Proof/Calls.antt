@@ -36,18 +36,18 @@ use denote.Triple.Spec.{triple_of}
 use denote.Triple.Clauses.{ensured, lasts}
 use denote.Triple.Walked.{says, Stays, stay_none, stay_none_slice, stay_slice, walk_of, ends_at}
 use denote.Exit.{yes}
-use Rattle.table.proofs.Lending.{Slot, Loans, lent_at, val, Owned-all, Tokens, Lent-all, Living}
+use Rattle.table.proofs.Lending.{Slot, Loans, lent_at, val, OwnedAll, Tokens, LentAll, Living}
 use Rattle.assembler.proofs.LoopLaws.{Arrays, Place, Waits, goes, ends, ends-within}
 use Rattle.asm.specs.Assemble.{outcome}
-use Rattle.asm.specs.Views.{EndedWith, Within, labelCount, wordCount}
-use Rattle.assembler.specs.Turns.{countsOf, endedAt, goesOn, start_of}
+use Rattle.asm.specs.Views.{EndedWith, Within, label_count, word_count}
+use Rattle.assembler.specs.Turns.{counts_of, ended_at, goes_on, start_of}
 use Rattle.asm.specs.declared.Assembled.{Assembled}
 use Rattle.asm.specs.declared.Counts.{Counts}
 use Rattle.asm.specs.declared.Rules.{Rules}
 use Rattle.asm.specs.declared.Turn.{Turn}
-use Rattle.reader.specs.Reader.{afterLine, line_at}
+use Rattle.reader.specs.Reader.{after_line, line_at}
 use Rattle.reader.specs.declared.LineReader.{LineReader}
-use Rattle.text.specs.Lines.{foreignLine}
+use Rattle.text.specs.Lines.{foreign_line}
 use Rattle.reader.specs.contracts.LineReader as T
 use Rattle.reader.proofs.LineReader.TheLaws as T'
 use Rattle.labels.specs.contracts.Label as E
@@ -209,8 +209,8 @@ module _ {M : Type 1} {𝓤 : Ura M} (𝓛 : Logic 𝓤) (mem : Memory → SProp
   pub goes-foreign : ent 𝓤 (⋆ 𝓛 (‵ Own ∷ Token ∷ [])) ((Foreign 𝓛 mem run).pre to-foreign)
   goes-foreign = qed 𝓛 (‵ Own ∷ Token ∷ []) ∵ nothing ! $ move ! (1 ∷ 0 ∷ []) $ fjoin ! $ move ! (1 ∷ 0 ∷ []) $ join ! $ frame ! $ done !
 
-  pub foreign-said : (n : ℕ) → ent 𝓤 (ensured 𝓛 foreign.ended (foreign.clauses 𝓛 mem run) (κ, tt) (s, tt) tt n) (fact 𝓤 (n ≡ foreignLine 1 s.now))
-  foreign-said n = ex_e 𝓤 _ (λ ws. snd∗ 𝓤 (sem 𝓛 (lasts foreign.ended (κ, tt) (s, tt) ws)) (fact 𝓤 (n ≡ foreignLine 1 s.now)))
+  pub foreign-said : (n : ℕ) → ent 𝓤 (ensured 𝓛 foreign.ended (foreign.clauses 𝓛 mem run) (κ, tt) (s, tt) tt n) (fact 𝓤 (n ≡ foreign_line 1 s.now))
+  foreign-said n = ex_e 𝓤 _ (λ ws. snd∗ 𝓤 (sem 𝓛 (lasts foreign.ended (κ, tt) (s, tt) ws)) (fact 𝓤 (n ≡ foreign_line 1 s.now)))
 
   abbrev pub to-new : (New 𝓛 mem run).Ghost
   to-new = (((κ, tt), (q, tt), tt, (s, tt), (v ∷ [], tt)), tt)
@@ -248,8 +248,8 @@ module _ {M : Type 1} {𝓤 : Ura M} (𝓛 : Logic 𝓤) (mem : Memory → SProp
   pub goes_after : (k : ℕ) → ent 𝓤 (⋆ 𝓛 (‵ (Held k) ∷ Token ∷ [])) ((After 𝓛 mem run).pre (to-after k))
   goes_after k = qed 𝓛 (‵ (Held k) ∷ Token ∷ []) ∵ nothing ! $ move ! (1 ∷ 0 ∷ []) $ fjoin ! $ move ! (1 ∷ 0 ∷ []) $ join ! $ frame ! $ done !
 
-  pub after-said : (k : ℕ) (t : LineReader) → ent 𝓤 (ensured 𝓛 after.ended (after.clauses 𝓛 mem run) (κ, tt) (R k, tt) tt t) (fact 𝓤 ((t.text ≡ s) × (t.at ≡ afterLine s.now k)))
-  after-said k t = ex_e 𝓤 _ (λ ws. snd∗ 𝓤 (sem 𝓛 (lasts after.ended (κ, tt) (R k, tt) ws)) (fact 𝓤 ((t.text ≡ s) × (t.at ≡ afterLine s.now k))))
+  pub after-said : (k : ℕ) (t : LineReader) → ent 𝓤 (ensured 𝓛 after.ended (after.clauses 𝓛 mem run) (κ, tt) (R k, tt) tt t) (fact 𝓤 ((t.text ≡ s) × (t.at ≡ after_line s.now k)))
+  after-said k t = ex_e 𝓤 _ (λ ws. snd∗ 𝓤 (sem 𝓛 (lasts after.ended (κ, tt) (R k, tt) ws)) (fact 𝓤 ((t.text ≡ s) × (t.at ≡ after_line s.now k))))
 
   -- `start`, `goes_on`, `counts` and `ended_at` hold no reference: what they ask is had for nothing
   abbrev pub to_start : ℕ → (Start 𝓛 mem run).Ghost
@@ -267,8 +267,8 @@ module _ {M : Type 1} {𝓤 : Ura M} (𝓛 : Logic 𝓤) (mem : Memory → SProp
   pub goes-counts : (t : Turn) (u : Val) → Is S.the_row t (u ∷ []) → ent 𝓤 (emp 𝓤) ((Count 𝓛 mem run).pre (to-counts t u))
   goes-counts t u good = qed 𝓛 [] ∵ nothing ! $ owned ! S.the_row (Is S.the_row) (EL.makes S.the_type S'.the_plain 𝓛) t (u ∷ []) good $ fjoin ! $ nothing ! $ join ! $ frame ! $ done !
 
-  pub counts-said : (t : Turn) (n : Counts) → ent 𝓤 (ensured 𝓛 counts.ended (counts.clauses 𝓛 mem run) tt (t, tt) tt n) (fact 𝓤 (n ≡ countsOf t))
-  counts-said t n = ex_e 𝓤 _ (λ ws. snd∗ 𝓤 (sem 𝓛 (lasts counts.ended tt (t, tt) ws)) (fact 𝓤 (n ≡ countsOf t)))
+  pub counts-said : (t : Turn) (n : Counts) → ent 𝓤 (ensured 𝓛 counts.ended (counts.clauses 𝓛 mem run) tt (t, tt) tt n) (fact 𝓤 (n ≡ counts_of t))
+  counts-said t n = ex_e 𝓤 _ (λ ws. snd∗ 𝓤 (sem 𝓛 (lasts counts.ended tt (t, tt) ws)) (fact 𝓤 (n ≡ counts_of t)))
 
   abbrev pub to-goes-on : Bool → Turn → Val → (GoesOn 𝓛 mem run).Ghost
   to-goes-on b t u = ((tt, tt, tt, (b, (t, tt)), (vbool b ∷ [], (u ∷ [], tt))), tt)
@@ -278,8 +278,8 @@ module _ {M : Type 1} {𝓤 : Ura M} (𝓛 : Logic 𝓤) (mem : Memory → SProp
       qed 𝓛 [] ∵ nothing ! $ owned ! S.the_row (Is S.the_row) (EL.makes S.the_type S'.the_plain 𝓛) t (u ∷ []) good $ fjoin ! $
       owned ! bool (Is bool) (bool_Makes 𝓛) b (vbool b ∷ []) refl $ fjoin ! $ nothing ! $ join ! $ frame ! $ done !
 
-  pub goes-on-said : (b : Bool) (t : Turn) (r : Bool) → ent 𝓤 (ensured 𝓛 goes_on.ended (goes_on.clauses 𝓛 mem run) tt (b, (t, tt)) tt r) (fact 𝓤 (r ≡ goesOn b t))
-  goes-on-said b t r = ex_e 𝓤 _ (λ ws. snd∗ 𝓤 (sem 𝓛 (lasts goes_on.ended tt (b, (t, tt)) ws)) (fact 𝓤 (r ≡ goesOn b t)))
+  pub goes-on-said : (b : Bool) (t : Turn) (r : Bool) → ent 𝓤 (ensured 𝓛 goes_on.ended (goes_on.clauses 𝓛 mem run) tt (b, (t, tt)) tt r) (fact 𝓤 (r ≡ goes_on b t))
+  goes-on-said b t r = ex_e 𝓤 _ (λ ws. snd∗ 𝓤 (sem 𝓛 (lasts goes_on.ended tt (b, (t, tt)) ws)) (fact 𝓤 (r ≡ goes_on b t)))
 
   abbrev pub to-ended-at : Turn → Val → ℕ → (EndedAt 𝓛 mem run).Ghost
   to-ended-at t u n = ((tt, tt, tt, (t, (n, tt)), (u ∷ [], (vint w64 n ∷ [], tt))), tt)
@@ -289,8 +289,8 @@ module _ {M : Type 1} {𝓤 : Ura M} (𝓛 : Logic 𝓤) (mem : Memory → SProp
       qed 𝓛 [] ∵ nothing ! $ owned ! usize (Is usize) (uint_Makes 𝓛 w64) n (vint w64 n ∷ []) (refl, fits) $ fjoin ! $
       owned ! S.the_row (Is S.the_row) (EL.makes S.the_type S'.the_plain 𝓛) t (u ∷ []) good $ fjoin ! $ nothing ! $ join ! $ frame ! $ done !
 
-  pub ended-at-said : (t : Turn) (n : ℕ) (r : Assembled) → ent 𝓤 (ensured 𝓛 ended_at.ended (ended_at.clauses 𝓛 mem run) tt (t, (n, tt)) tt r) (fact 𝓤 (r ≡ endedAt t n))
-  ended-at-said t n r = ex_e 𝓤 _ (λ ws. snd∗ 𝓤 (sem 𝓛 (lasts ended_at.ended tt (t, (n, tt)) ws)) (fact 𝓤 (r ≡ endedAt t n)))
+  pub ended-at-said : (t : Turn) (n : ℕ) (r : Assembled) → ent 𝓤 (ensured 𝓛 ended_at.ended (ended_at.clauses 𝓛 mem run) tt (t, (n, tt)) tt r) (fact 𝓤 (r ≡ ended_at t n))
+  ended-at-said t n r = ex_e 𝓤 _ (λ ws. snd∗ 𝓤 (sem 𝓛 (lasts ended_at.ended tt (t, (n, tt)) ws)) (fact 𝓤 (r ≡ ended_at t n)))
 
   -- `one_line`: the slices are lent again as νs says, the line is x, with the machine value w, and the counts are n, with u
   module _ (νs : Loans slots) (yss : Arrays) (k : ℕ) (x : Bor (List ℕ)) (w : Val) (n : Counts) (u : Val) where
@@ -311,9 +311,9 @@ module _ {M : Type 1} {𝓤 : Ura M} (𝓛 : Logic 𝓤) (mem : Memory → SProp
     Tokens8 = ‵ (flft κ (PosShare.left q)) ⊛ (‵ (flft κ (PosShare.right q)) ⊛ ‵ (Living slots νs))
 
     pub goes-one-line : Is K.the_row rules (K'.lowered rules ∷ []) → k < 2 ^ 64 → k + length x.now ≤ length s.now → Within n.words.0 n.labels n.waiting (length yss.0) (length yss.1.0) → Waits yss
-        → ent 𝓤 (⋆ 𝓛 (‵ (Lent-all slots νs yss) ∷ ‵ (Living slots νs) ∷ Token ∷ ‵ Own ∷ ‵ LineOwn ∷ ‵ ((N.the_row).own_val n (u ∷ [])) ∷ [])) ((OneLine 𝓛 mem run).pre to-one-line)
+        → ent 𝓤 (⋆ 𝓛 (‵ (LentAll slots νs yss) ∷ ‵ (Living slots νs) ∷ Token ∷ ‵ Own ∷ ‵ LineOwn ∷ ‵ ((N.the_row).own_val n (u ∷ [])) ∷ [])) ((OneLine 𝓛 mem run).pre to-one-line)
     goes-one-line is-k fits there within waits =
-        qed 𝓛 (‵ (Lent-all slots νs yss) ∷ ‵ (Living slots νs) ∷ Token ∷ ‵ Own ∷ ‵ LineOwn ∷ ‵ ((N.the_row).own_val n (u ∷ [])) ∷ []) ∵ suffices ! _ (beside 𝓛 _ _ (three-facts 𝓛 there within waits)) $
+        qed 𝓛 (‵ (LentAll slots νs yss) ∷ ‵ (Living slots νs) ∷ Token ∷ ‵ Own ∷ ‵ LineOwn ∷ ‵ ((N.the_row).own_val n (u ∷ [])) ∷ []) ∵ suffices ! _ (beside 𝓛 _ _ (three-facts 𝓛 there within waits)) $
         move ! (2 ∷ []) $ split ! $ use1 𝓛 (‵ (flft κ (PosShare.left q)) ⊛ ‵ (flft κ (PosShare.right q))) (𝓛.lfts.lft_split κ q) $ split ! $
         -- [the token's left half; its right; true; the slices; their tokens; the text; the line; the counts]
         move ! (1 ∷ 4 ∷ []) $ join ! $ move ! (1 ∷ 0 ∷ []) $ join ! $ frame ! $
@@ -324,14 +324,14 @@ module _ {M : Type 1} {𝓤 : Ura M} (𝓛 : Logic 𝓤) (mem : Memory → SProp
 
   -- at exit
   module _ (p : Place rules.strict s.now a₀) where
-    pub exits : Is K.the_row rules (K'.lowered rules ∷ []) → Waits a₀ → goes rules.strict s.now a₀ p ≡ false → (r : Assembled) (u : Val) → r ≡ endedAt p.t p.line
-        → ent 𝓤 (⋆ 𝓛 (‵ ((D.the_row).own_val r (u ∷ [])) ∷ Token ∷ ‵ Own ∷ ‵ (Owned-all slots p.arrays) ∷ ‵ (Tokens slots) ∷ [])) (Post u)
+    pub exits : Is K.the_row rules (K'.lowered rules ∷ []) → Waits a₀ → goes rules.strict s.now a₀ p ≡ false → (r : Assembled) (u : Val) → r ≡ ended_at p.t p.line
+        → ent 𝓤 (⋆ 𝓛 (‵ ((D.the_row).own_val r (u ∷ [])) ∷ Token ∷ ‵ Own ∷ ‵ (OwnedAll slots p.arrays) ∷ ‵ (Tokens slots) ∷ [])) (Post u)
     exits is-k waits e r u is =
-        qed 𝓛 (‵ ((D.the_row).own_val r (u ∷ [])) ∷ Token ∷ ‵ Own ∷ ‵ (Owned-all slots p.arrays) ∷ ‵ (Tokens slots) ∷ []) ∵
+        qed 𝓛 (‵ ((D.the_row).own_val r (u ∷ [])) ∷ Token ∷ ‵ Own ∷ ‵ (OwnedAll slots p.arrays) ∷ ‵ (Tokens slots) ∷ []) ∵
         suffices ! _ (ends_at 𝓛 f.ended stayed (f.clauses 𝓛 mem run) ((κs, qs, tt, a, at), tt) u r (tt, (tt, p.arrays)) (tt, (tt, p.long))) $
         suffices ! _ (beside 𝓛 _ _ (two_facts 𝓛
         (subst (λ (x : Assembled). EndedWith x p.arrays.0 p.arrays.1.0 (outcome rules.strict s.now (length a₀.0) (length a₀.1.0))) (sym is) (ends rules.strict s.now a₀ waits p e))
-        (subst (λ (x : Assembled). (wordCount x ≤ length a₀.0) × (labelCount x ≤ length a₀.1.0)) (sym is) (ends-within rules.strict s.now a₀ p)))) $
+        (subst (λ (x : Assembled). (word_count x ≤ length a₀.0) × (label_count x ≤ length a₀.1.0)) (sym is) (ends-within rules.strict s.now a₀ p)))) $
         move ! (1 ∷ []) $ split ! $ move ! (1 ∷ []) $ drop ! $ move ! (0 ∷ 4 ∷ []) $ join ! $ frame ! $
         -- [the result; the text; the slices]
         move ! (1 ∷ 2 ∷ []) $ fjoin ! $ owned ! K.the_row (Is K.the_row) (LL.makes K.the_type K'.the_plain 𝓛) rules (K'.lowered rules ∷ []) is-k $ fjoin ! $ frame ! $ done !

@@ -33,16 +33,16 @@ use denote.Triple.Statement.{Triple}
 use denote.Triple.Call.{calls_at, calls_at_last}
 use denote.Triple.Entry.{Args}
 use denote.Triple.Clauses.{ensured, lasts}
-use Rattle.table.proofs.Lending.{Slot, Loans, Fit, Rooms, Owned-all, Tokens, Lent-all, Living, Kept-all, lends-all, back-all}
-use Rattle.assembler.proofs.LoopLaws.{Arrays, AsLong, Waits, WithinIs, goes, inside, line-fits, nearer, next, taskIs, there, turnedIs, waits-now, waitingIs, within-now}
+use Rattle.table.proofs.Lending.{Slot, Loans, Fit, Rooms, OwnedAll, Tokens, LentAll, Living, KeptAll, lends-all, back-all}
+use Rattle.assembler.proofs.LoopLaws.{Arrays, AsLong, Waits, WithinIs, goes, inside, line-fits, nearer, next, task_is, there, turned_is, waits-now, waiting_is, within-now}
 use Rattle.asm.specs.Reading.{read}
 use Rattle.asm.specs.Work.{turn as turn_of}
-use Rattle.asm.specs.Views.{workOf}
-use Rattle.assembler.specs.Turns.{countsOf}
+use Rattle.asm.specs.Views.{work_of}
+use Rattle.assembler.specs.Turns.{counts_of}
 use Rattle.asm.specs.declared.Counts.{Counts}
 use Rattle.asm.specs.declared.Rules.{Rules}
 use Rattle.asm.specs.declared.Turn.{Turn}
-use Rattle.reader.specs.Reader.{afterLine, line_at}
+use Rattle.reader.specs.Reader.{after_line, line_at}
 use Rattle.reader.specs.declared.LineReader.{LineReader}
 use Rattle.reader.specs.contracts.LineReader as T
 use Rattle.reader.proofs.LineReader.TheLaws as T'
@@ -115,7 +115,7 @@ module _ {M : Type 1} {𝓤 : Ura M} (𝓛 : Logic 𝓤) (mem : Memory → SProp
   -- what `one_line` says of the line x, where it leaves zs and answers r
   module _ (σ : Here) (x : List ℕ) (r : Turn) (zs : Arrays) where
     abbrev Done : Type 0
-    Done = turnedIs r zs ≡ turn_of (taskIs rules.strict s.now σ.place.arrays) σ.place.at (read x) (workOf (countsOf σ.place.t) σ.place.arrays.0 σ.place.arrays.1.0 (waitingIs σ.place.arrays))
+    Done = turned_is r zs ≡ turn_of (task_is rules.strict s.now σ.place.arrays) σ.place.at (read x) (work_of (counts_of σ.place.t) σ.place.arrays.0 σ.place.arrays.1.0 (waiting_is σ.place.arrays))
 
     abbrev Inside : Type 0
     Inside = WithinIs r σ.place.arrays
@@ -124,7 +124,7 @@ module _ {M : Type 1} {𝓤 : Ura M} (𝓛 : Logic 𝓤) (mem : Memory → SProp
   module _ (short : length s.now < 2 ^ 64) (σ : Here) (e : goes-on? σ ≡ true) (x : List ℕ) (is_x : x ≡ line_at s.now σ.place.at) (r : Turn) (zs : Arrays) (fit : AsLong zs a₀) (done' : Done σ x r zs) (in' : Inside σ x r zs) (z : Val) (is-z : Is S.the_row r (z ∷ [])) where
     abbrev onwards : Here
     onwards = record {
-      place = next rules.strict s.now a₀ short σ.place e r zs fit (done' ∙ ap (λ (y : List ℕ). turn_of (taskIs rules.strict s.now σ.place.arrays) σ.place.at (read y) (workOf (countsOf σ.place.t) σ.place.arrays.0 σ.place.arrays.1.0 (waitingIs σ.place.arrays))) is_x) in';
+      place = next rules.strict s.now a₀ short σ.place e r zs fit (done' ∙ ap (λ (y : List ℕ). turn_of (task_is rules.strict s.now σ.place.arrays) σ.place.at (read y) (work_of (counts_of σ.place.t) σ.place.arrays.0 σ.place.arrays.1.0 (waiting_is σ.place.arrays))) is_x) in';
       u = z;
       good = is-z;
     }
@@ -168,7 +168,7 @@ module _ {M : Type 1} {𝓤 : Ura M} (𝓛 : Logic 𝓤) (mem : Memory → SProp
         use0 𝓛 (raw ((Count 𝓛 mem run).pre (calls.to-counts 𝓛 mem run κs qs a σ.place.t σ.u))) (calls.goes-counts 𝓛 mem run κs qs a σ.place.t σ.u σ.good) $
         calls_at ! fm (Count 𝓛 mem run) known-counts (calls.to-counts 𝓛 mem run κs qs a σ.place.t σ.u) (and_then ! (load ! (from ! (stop !)) (look ! 48 refl)) (no_more !)) (λ c.
         use1 𝓛 (later (some (λ (n : Counts). (‵ ftrue ⊛ ‵ ((N.the_row).own_val n (c ∷ []))) ⊛ raw (ensured 𝓛 counts.ended (counts.clauses 𝓛 mem run) tt (σ.place.t, tt) tt n)))) (id⊢ 𝓤 _) $ await ! tt $ pick ! (λ n.
-        split ! $ move ! (1 ∷ []) $ use1 𝓛 (raw (fact 𝓤 (n ≡ countsOf σ.place.t))) (calls.counts-said 𝓛 mem run κs qs a σ.place.t n) $ heard ! (n ≡ countsOf σ.place.t) (λ is-n. split ! $ drop ! $
+        split ! $ move ! (1 ∷ []) $ use1 𝓛 (raw (fact 𝓤 (n ≡ counts_of σ.place.t))) (calls.counts-said 𝓛 mem run κs qs a σ.place.t n) $ heard ! (n ≡ counts_of σ.place.t) (λ is-n. split ! $ drop ! $
         -- [the counts; the reader; the text's token; the text; the slices; their tokens; _31; …]
         peeks ! N.the_row (Is N.the_row) (shows 𝓛 N.the_row) n (c ∷ []) (λ is_c.
         land ! (from ! (stop !)) (init ! 44 refl ((LL.lawful N.the_type N'.the_laws 𝓛).typed n _ is_c).0) $ rewrite ! 0 (λ (y : Counts). ‵ ((N.the_row).own_val y (c ∷ []))) is-n refl $
@@ -196,17 +196,17 @@ module _ {M : Type 1} {𝓤 : Ura M} (𝓛 : Logic 𝓤) (mem : Memory → SProp
         assigns ! (agg ! (and_then ! (load ! (from ! (stop !)) (look ! 15 refl)) (and_then ! (load ! (from ! (fld ! refl (stop !))) (look_in ! 55 (sub ! 1 refl (whole !)))) (no_more !)))) (from ! (stop !)) (init ! 13 refl (tt, (tt, (record { fits = rooms.1.1.1.1.0.0 }, tt)))) $
         assigns ! (addr ! (from ! (fld ! refl (hop ! (look_in ! 53 (sub ! 0 refl (whole !))) (stop !))))) (from ! (stop !)) (init ! 11 refl (tt, tt)) $
         assigns ! (agg ! (and_then ! (load ! (from ! (stop !)) (look ! 11 refl)) (and_then ! (load ! (from ! (fld ! refl (stop !))) (look_in ! 53 (sub ! 1 refl (whole !)))) (no_more !)))) (from ! (stop !)) (init ! 9 refl (tt, (tt, (record { fits = rooms.1.1.1.1.1.0.0 }, tt)))) $
-        move ! (5 ∷ 6 ∷ []) $ use2 𝓛 (later (some (λ (νs : Loans slots). (‵ (Lent-all slots νs σ.place.arrays) ⊛ ‵ (Living slots νs)) ⊛ ‵ (Kept-all slots νs σ.place.arrays)))) (lends-all 𝓛 slots σ.place.arrays σ.place.long) $ await ! tt $ pick ! (λ νs. split ! $ split ! $
+        move ! (5 ∷ 6 ∷ []) $ use2 𝓛 (later (some (λ (νs : Loans slots). (‵ (LentAll slots νs σ.place.arrays) ⊛ ‵ (Living slots νs)) ⊛ ‵ (KeptAll slots νs σ.place.arrays)))) (lends-all 𝓛 slots σ.place.arrays σ.place.long) $ await ! tt $ pick ! (λ νs. split ! $ split ! $
         -- [the slices lent again; their tokens; what is kept; the line; the text's token; the reader; the counts; the text; _31; …]
         move ! (7 ∷ []) $ use1 𝓛 (‵ Own ⊛ ‵ Own) (calls.text-twice 𝓛 mem run κs qs a) $ split ! $ move ! (2 ∷ 3 ∷ 6 ∷ 0 ∷ 5 ∷ 8 ∷ []) $ group ! 6 $
-        use1 𝓛 (raw ((OneLine 𝓛 mem run).pre (calls.to-one-line 𝓛 mem run κs qs a νs σ.place.arrays σ.place.at x w (countsOf σ.place.t) c)))
-        (calls.goes-one-line 𝓛 mem run κs qs a νs σ.place.arrays σ.place.at x w (countsOf σ.place.t) c is-k (at-fits σ e) (subst (λ (y : List ℕ). σ.place.at + length y ≤ length s.now) (sym is_x) (inside rules.strict s.now a₀ σ.place e))
+        use1 𝓛 (raw ((OneLine 𝓛 mem run).pre (calls.to-one-line 𝓛 mem run κs qs a νs σ.place.arrays σ.place.at x w (counts_of σ.place.t) c)))
+        (calls.goes-one-line 𝓛 mem run κs qs a νs σ.place.arrays σ.place.at x w (counts_of σ.place.t) c is-k (at-fits σ e) (subst (λ (y : List ℕ). σ.place.at + length y ≤ length s.now) (sym is_x) (inside rules.strict s.now a₀ σ.place e))
         (within-now rules.strict s.now a₀ σ.place) (waits-now rules.strict s.now a₀ waits σ.place)) $
         -- [what `one_line` asks; the text; what is kept; the reader; _31; …]
-        calls_at ! fm (OneLine 𝓛 mem run) known-one-line (calls.to-one-line 𝓛 mem run κs qs a νs σ.place.arrays σ.place.at x w (countsOf σ.place.t) c)
+        calls_at ! fm (OneLine 𝓛 mem run) known-one-line (calls.to-one-line 𝓛 mem run κs qs a νs σ.place.arrays σ.place.at x w (counts_of σ.place.t) c)
         (and_then ! (load ! (from ! (stop !)) (look ! 64 refl)) (and_then ! (load ! (from ! (stop !)) (look ! 62 refl)) (and_then ! (load ! (from ! (stop !)) (look ! 40 refl)) (and_then ! (load ! (from ! (stop !)) (look ! 32 refl)) (and_then ! (load ! (from ! (stop !)) (look ! 42 refl)) (and_then ! (load ! (from ! (stop !)) (look ! 26 refl)) (and_then ! (load ! (from ! (stop !)) (look ! 22 refl)) (and_then ! (load ! (from ! (stop !)) (look ! 18 refl)) (and_then ! (load ! (from ! (stop !)) (look ! 14 refl)) (and_then ! (load ! (from ! (stop !)) (look ! 10 refl)) (and_then ! (load ! (from ! (stop !)) (look ! 6 refl)) (no_more !)))))))))))) (λ z.
-        use1 𝓛 (later (some (λ (r : Turn). (calls.Tokens8 𝓛 mem run κs qs a νs σ.place.arrays σ.place.at x w (countsOf σ.place.t) c ⊛ ‵ ((S.the_row).own_val r (z ∷ []))) ⊛ raw (ensured 𝓛 one_line.ended (one_line.clauses 𝓛 mem run) (calls.lives 𝓛 mem run κs qs a νs σ.place.arrays σ.place.at x w (countsOf σ.place.t) c) (calls.passed 𝓛 mem run κs qs a νs σ.place.arrays σ.place.at x w (countsOf σ.place.t) c) tt r)))) (id⊢ 𝓤 _) $ await ! tt $ pick ! (λ r. split ! $ move ! (1 ∷ []) $
-        use1 𝓛 (some (λ (ws : Unit {0} × (Unit {0} × (Unit {0} × (Unit {0} × (Unit {0} × Arrays))))). ‵ (lasts one_line.ended (calls.lives 𝓛 mem run κs qs a νs σ.place.arrays σ.place.at x w (countsOf σ.place.t) c) (calls.passed 𝓛 mem run κs qs a νs σ.place.arrays σ.place.at x w (countsOf σ.place.t) c) ws) ⊛ (raw (fact 𝓤 (Done σ x.now r ws.1.1.1.1.1)) ⊛ raw (fact 𝓤 (Inside σ x.now r ws.1.1.1.1.1))))) (id⊢ 𝓤 _) $ pick ! (λ ws.
+        use1 𝓛 (later (some (λ (r : Turn). (calls.Tokens8 𝓛 mem run κs qs a νs σ.place.arrays σ.place.at x w (counts_of σ.place.t) c ⊛ ‵ ((S.the_row).own_val r (z ∷ []))) ⊛ raw (ensured 𝓛 one_line.ended (one_line.clauses 𝓛 mem run) (calls.lives 𝓛 mem run κs qs a νs σ.place.arrays σ.place.at x w (counts_of σ.place.t) c) (calls.passed 𝓛 mem run κs qs a νs σ.place.arrays σ.place.at x w (counts_of σ.place.t) c) tt r)))) (id⊢ 𝓤 _) $ await ! tt $ pick ! (λ r. split ! $ move ! (1 ∷ []) $
+        use1 𝓛 (some (λ (ws : Unit {0} × (Unit {0} × (Unit {0} × (Unit {0} × (Unit {0} × Arrays))))). ‵ (lasts one_line.ended (calls.lives 𝓛 mem run κs qs a νs σ.place.arrays σ.place.at x w (counts_of σ.place.t) c) (calls.passed 𝓛 mem run κs qs a νs σ.place.arrays σ.place.at x w (counts_of σ.place.t) c) ws) ⊛ (raw (fact 𝓤 (Done σ x.now r ws.1.1.1.1.1)) ⊛ raw (fact 𝓤 (Inside σ x.now r ws.1.1.1.1.1))))) (id⊢ 𝓤 _) $ pick ! (λ ws.
         split ! $ move ! (1 ∷ []) $ split ! $ heard ! (Done σ x.now r ws.1.1.1.1.1) (λ done'. heard ! (Inside σ x.now r ws.1.1.1.1.1) (λ in'.
         fsplit ! $ drop ! $ fsplit ! $ drop ! $ fsplit ! $ drop ! $ fsplit ! $ drop ! $ fsplit ! $ drop ! $
         -- [the slices' ends; the tokens and the answer; the text; what is kept; the reader; _31; …]
@@ -215,7 +215,7 @@ module _ {M : Type 1} {𝓤 : Ura M} (𝓛 : Logic 𝓤) (mem : Memory → SProp
         -- [the tokens; the slices' ends; the text; what is kept; the reader; _31; …]
         split ! $ move ! (1 ∷ []) $ split ! $ move ! (2 ∷ 0 ∷ []) $ use2 𝓛 (‵ (flft κ q)) (𝓛.lfts.lft_join κ q) $ nothing ! $ move ! (1 ∷ 0 ∷ []) $ join ! $
         -- [the text's token; the new lifetimes' tokens; the slices' ends; the text; what is kept; the reader; _31; …]
-        move ! (1 ∷ 4 ∷ 2 ∷ []) $ use3 𝓛 (later ((‵ (Owned-all slots ws.1.1.1.1.1) ⊛ ‵ (Tokens slots)) ⊛ raw (fact 𝓤 (Fit slots ws.1.1.1.1.1)))) (back-all 𝓛 slots νs σ.place.arrays ws.1.1.1.1.1 rooms σ.place.long) $ await ! tt $
+        move ! (1 ∷ 4 ∷ 2 ∷ []) $ use3 𝓛 (later ((‵ (OwnedAll slots ws.1.1.1.1.1) ⊛ ‵ (Tokens slots)) ⊛ raw (fact 𝓤 (Fit slots ws.1.1.1.1.1)))) (back-all 𝓛 slots νs σ.place.arrays ws.1.1.1.1.1 rooms σ.place.long) $ await ! tt $
         split ! $ move ! (1 ∷ []) $ heard ! (Fit slots ws.1.1.1.1.1) (λ fit. split ! $
         -- [the slices; their tokens; the text's token; the text; the reader; _31; …]
         assigns ! (of_opd ! (load ! (from ! (stop !)) (look ! 45 refl))) (from ! (stop !)) (init ! 5 refl ((LL.lawful (T.the_type αᵉ) (T'.the_laws αᵉ) 𝓛).typed (R σ.place.at) _ is).0) $
@@ -223,12 +223,12 @@ module _ {M : Type 1} {𝓤 : Ura M} (𝓛 : Logic 𝓤) (mem : Memory → SProp
         -- [what `after` asks; the slices; their tokens; the text; _31; …]
         calls_at_last ! fm (After 𝓛 mem run) known-after (calls.to-after 𝓛 mem run κs qs a σ.place.at) (and_then ! (load ! (from ! (stop !)) (look ! 4 refl)) (no_more !)) (λ y.
         use1 𝓛 (later (some (λ (rd : LineReader). (Token ⊛ ‵ ((B (κ, tt)).own_val rd (y ∷ []))) ⊛ raw (ensured 𝓛 after.ended (after.clauses 𝓛 mem run) (κ, tt) (R σ.place.at, tt) tt rd)))) (id⊢ 𝓤 _) $ await ! tt $ pick ! (λ rd.
-        split ! $ move ! (1 ∷ []) $ use1 𝓛 (raw (fact 𝓤 ((rd.text ≡ s) × (rd.at ≡ afterLine s.now σ.place.at)))) (calls.after-said 𝓛 mem run κs qs a σ.place.at rd) $ heard ! ((rd.text ≡ s) × (rd.at ≡ afterLine s.now σ.place.at)) (λ moved. split ! $ move ! (1 ∷ []) $
+        split ! $ move ! (1 ∷ []) $ use1 𝓛 (raw (fact 𝓤 ((rd.text ≡ s) × (rd.at ≡ after_line s.now σ.place.at)))) (calls.after-said 𝓛 mem run κs qs a σ.place.at rd) $ heard ! ((rd.text ≡ s) × (rd.at ≡ after_line s.now σ.place.at)) (λ moved. split ! $ move ! (1 ∷ []) $
         -- [the new reader; the text's token; the slices; their tokens; the text; _31; …]
         peeks ! (B (κ, tt)) (Is (B (κ, tt))) (shows 𝓛 (B (κ, tt))) rd (y ∷ []) (λ is_y.
         land_last ! (from ! (stop !)) (store ! 45 refl ((LL.lawful (T.the_type αᵉ) (T'.the_laws αᵉ) 𝓛).typed rd _ is_y).0) $
-        rewrite ! 45 (λ (m : Val). ‵ (fat full_share (T'.mir erased) l₁₁ 0 m)) (calls.is-lowered 𝓛 mem run κs qs a rd y is_y ∙ ap T'.lowered (calls.is-reader 𝓛 mem run κs qs a rd (afterLine s.now σ.place.at) moved)) refl $
-        rewrite ! 0 (λ (m : Val). ‵ ((B (κ, tt)).own_val rd (m ∷ []))) (calls.is-lowered 𝓛 mem run κs qs a rd y is_y) refl $ rewrite ! 0 (λ (m : LineReader). ‵ ((B (κ, tt)).own_val m (T'.lowered m ∷ []))) (calls.is-reader 𝓛 mem run κs qs a rd (afterLine s.now σ.place.at) moved) refl $
+        rewrite ! 45 (λ (m : Val). ‵ (fat full_share (T'.mir erased) l₁₁ 0 m)) (calls.is-lowered 𝓛 mem run κs qs a rd y is_y ∙ ap T'.lowered (calls.is-reader 𝓛 mem run κs qs a rd (after_line s.now σ.place.at) moved)) refl $
+        rewrite ! 0 (λ (m : Val). ‵ ((B (κ, tt)).own_val rd (m ∷ []))) (calls.is-lowered 𝓛 mem run κs qs a rd y is_y) refl $ rewrite ! 0 (λ (m : LineReader). ‵ ((B (κ, tt)).own_val m (T'.lowered m ∷ []))) (calls.is-reader 𝓛 mem run κs qs a rd (after_line s.now σ.place.at) moved) refl $
         forget ! 5 refl $ forget ! 7 refl $ forget ! 9 refl $ forget ! 11 refl $ forget ! 13 refl $ forget ! 15 refl $ forget ! 17 refl $ forget ! 19 refl $ forget ! 21 refl $ forget ! 23 refl $
         forget ! 25 refl $ forget ! 27 refl $ forget ! 29 refl $ forget ! 31 refl $ forget ! 33 refl $ forget ! 35 refl $ forget ! 37 refl $ forget ! 39 refl $ forget ! 41 refl $ forget ! 43 refl $
         move ! (0 ∷ 1 ∷ 4 ∷ 2 ∷ 3 ∷ []) $ again ! (Nearer rules.strict s.now a₀) At σ (onwards short σ e x.now is_x r ws.1.1.1.1.1 fit done' in' z is-z) (nearer rules.strict s.now a₀ σ.place e))))))))))))))))))))))

@@ -29,7 +29,7 @@ use denote.Laws.{Is}
 use denote.Ref.{Bor}
 use denote.Slice.{slice_ty}
 use denote.Triple.Entry.{Args, on_entry}
-use Rattle.table.proofs.Lending.{Slot, val, Owned-all, Tokens}
+use Rattle.table.proofs.Lending.{Slot, val, OwnedAll, Tokens}
 use Rattle.assembler.proofs.LoopLaws.{Arrays, Place, goes, nearness}
 use Rattle.asm.specs.declared.Rules.{Rules}
 use Rattle.reader.proofs.LineReader.TheLaws as T'
@@ -115,8 +115,8 @@ module _ (strict : Bool) (text : List ℕ) (a₀ : Arrays) where
   abbrev pub Nearer : State → State → Type 0
   Nearer p r = nearness strict text a₀ p.place.at r.place.at
 
-  pub Nearer-wf : WellFounded Nearer
-  Nearer-wf = InvImage.wf (λ (p : State). length text + 1 - p.place.at) lt-wf_rel.wf
+  pub NearerWf : WellFounded Nearer
+  NearerWf = InvImage.wf (λ (p : State). length text + 1 - p.place.at) lt-wf_rel.wf
 
 -- ---- a local in front of others: with a value, and without
 module _ {M : Type 1} (𝓤 : Ura M) where
@@ -199,7 +199,7 @@ module _ {M : Type 1} {𝓤 : Ura M} (𝓛 : Logic 𝓤) (mem : Memory → SProp
 
     -- what the function owns
     abbrev Owned : Here → List (Item 𝓤) → List (Item 𝓤)
-    Owned σ Γ = ‵ (Held σ.place.at) ∷ Token ∷ ‵ Own ∷ ‵ (Owned-all slots σ.place.arrays) ∷ ‵ (Tokens slots) ∷ Γ
+    Owned σ Γ = ‵ (Held σ.place.at) ∷ Token ∷ ‵ Own ∷ ‵ (OwnedAll slots σ.place.arrays) ∷ ‵ (Tokens slots) ∷ Γ
 
     -- a turn begins: the turn's own locals have no value
     -- [the reader; the text's token; the text; the slices; their tokens; _31; …; _30; …; and so on, to the room for _0; …]

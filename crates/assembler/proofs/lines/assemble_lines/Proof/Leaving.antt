@@ -26,7 +26,7 @@ use denote.Triple.Call.{calls_at}
 use denote.Triple.Entry.{Args}
 use denote.Triple.Clauses.{ensured}
 use Rattle.assembler.proofs.LoopLaws.{Arrays, Waits, goes}
-use Rattle.assembler.specs.Turns.{endedAt}
+use Rattle.assembler.specs.Turns.{ended_at}
 use Rattle.asm.specs.declared.Assembled.{Assembled}
 use Rattle.asm.specs.declared.Rules.{Rules}
 use Rattle.asm.specs.contracts.Assembled as D
@@ -84,7 +84,7 @@ module _ {M : Type 1} {𝓤 : Ura M} (𝓛 : Logic 𝓤) (mem : Memory → SProp
         use0 𝓛 (raw ((EndedAt 𝓛 mem run).pre (calls.to-ended-at 𝓛 mem run κs qs a σ.place.t σ.u σ.place.line))) (calls.goes-ended-at 𝓛 mem run κs qs a σ.place.t σ.u σ.place.line σ.good σ.place.fits) $
         calls_at ! fm (EndedAt 𝓛 mem run) known-ended (calls.to-ended-at 𝓛 mem run κs qs a σ.place.t σ.u σ.place.line) (and_then ! (load ! (from ! (stop !)) (look ! 48 refl)) (and_then ! (load ! (from ! (stop !)) (look ! 50 refl)) (no_more !))) (λ z.
         use1 𝓛 (later (some (λ (r : Assembled). (‵ ftrue ⊛ ‵ ((D.the_row).own_val r (z ∷ []))) ⊛ raw (ensured 𝓛 ended_at.ended (ended_at.clauses 𝓛 mem run) tt (σ.place.t, (σ.place.line, tt)) tt r)))) (id⊢ 𝓤 _) $ await ! tt $ pick ! (λ r.
-        split ! $ move ! (1 ∷ []) $ use1 𝓛 (raw (fact 𝓤 (r ≡ endedAt σ.place.t σ.place.line))) (calls.ended-at-said 𝓛 mem run κs qs a σ.place.t σ.place.line r) $ heard ! (r ≡ endedAt σ.place.t σ.place.line) (λ is-r. split ! $ drop ! $
+        split ! $ move ! (1 ∷ []) $ use1 𝓛 (raw (fact 𝓤 (r ≡ ended_at σ.place.t σ.place.line))) (calls.ended-at-said 𝓛 mem run κs qs a σ.place.t σ.place.line r) $ heard ! (r ≡ ended_at σ.place.t σ.place.line) (λ is-r. split ! $ drop ! $
         -- [the answer; the reader; the text's token; the text; the slices; their tokens; the locals as before]
         peeks ! D.the_row (Is D.the_row) (shows 𝓛 D.the_row) r (z ∷ []) (λ is-z.
         land ! (from ! (stop !)) (init ! 68 refl ((EL.lawful D.the_type D'.the_laws 𝓛 tt).typed r _ is-z).0) $

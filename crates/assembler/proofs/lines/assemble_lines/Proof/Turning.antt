@@ -33,13 +33,13 @@ use denote.Triple.Statement.{Triple}
 use denote.Triple.Call.{calls_at}
 use denote.Triple.Entry.{Args, on_entry}
 use denote.Triple.Clauses.{ensured}
-use Rattle.table.proofs.Lending.{Slot, Rooms, Owned-all, Tokens}
+use Rattle.table.proofs.Lending.{Slot, Rooms, OwnedAll, Tokens}
 use Rattle.assembler.proofs.LoopLaws.{Arrays, Waits, goes, start}
 use Rattle.assembler.specs.Turns.{start_of}
 use Rattle.asm.specs.declared.Rules.{Rules}
 use Rattle.asm.specs.declared.Turn.{Turn}
 use Rattle.reader.specs.declared.LineReader.{LineReader}
-use Rattle.text.specs.Lines.{foreignLine}
+use Rattle.text.specs.Lines.{foreign_line}
 use Rattle.reader.specs.contracts.LineReader as T
 use Rattle.reader.proofs.LineReader.TheLaws as T'
 use Rattle.asm.specs.contracts.Rules as K
@@ -66,7 +66,7 @@ use Rattle.assembler.proofs.lines.assemble_lines.Code.Mir as parts
 use Rattle.assembler.proofs.lines.assemble_lines.Proof.Calls as calls
 use Rattle.assembler.proofs.lines.assemble_lines.Proof.Calls.{B, Foreign, New, More, Line, After, Start, GoesOn, Count, OneLine, EndedAt}
 use Rattle.assembler.proofs.lines.assemble_lines.Proof.Frame as locals
-use Rattle.assembler.proofs.lines.assemble_lines.Proof.Frame.{Nearer, Nearer-wf, tests}
+use Rattle.assembler.proofs.lines.assemble_lines.Proof.Frame.{Nearer, NearerWf, tests}
 use Rattle.assembler.proofs.lines.assemble_lines.Proof.Leaving as leaving
 use Rattle.assembler.proofs.lines.assemble_lines.Proof.Doing as doing
 
@@ -116,9 +116,9 @@ module _ {M : Type 1} {𝓤 : Ura M} (𝓛 : Logic 𝓤) (mem : Memory → SProp
   goes-on? σ = goes rules.strict s.now a₀ σ.place
 
   -- what is had at entry, taken apart
-  apart : ent 𝓤 (on_entry 𝓛 f.signature κs qs a (calls.at 𝓛 mem run κs qs a)) (⋆ 𝓛 (Token ∷ ‵ Own ∷ ‵ (Owned-all slots a₀) ∷ ‵ (Tokens slots) ∷ []))
+  apart : ent 𝓤 (on_entry 𝓛 f.signature κs qs a (calls.at 𝓛 mem run κs qs a)) (⋆ 𝓛 (Token ∷ ‵ Own ∷ ‵ (OwnedAll slots a₀) ∷ ‵ (Tokens slots) ∷ []))
   apart =
-      qed 𝓛 ((‵ (flft κ q) ⊛ ‵ (Tokens slots)) ∷ ‵ (fsep ((K.the_row).own_val rules (K'.lowered rules ∷ [])) (fsep Own (Owned-all slots a₀))) ∷ []) ∵ split ! $ move ! (2 ∷ []) $ fsplit ! $ drop ! $ fsplit ! $
+      qed 𝓛 ((‵ (flft κ q) ⊛ ‵ (Tokens slots)) ∷ ‵ (fsep ((K.the_row).own_val rules (K'.lowered rules ∷ [])) (fsep Own (OwnedAll slots a₀))) ∷ []) ∵ split ! $ move ! (2 ∷ []) $ fsplit ! $ drop ! $ fsplit ! $
       -- [the text; the slices; the text's token; the slices' tokens]
       nothing ! $ move ! (3 ∷ 0 ∷ []) $ join ! $ frame ! $ frame ! $ frame ! $ done !
 
@@ -178,28 +178,28 @@ module _ {M : Type 1} {𝓤 : Ura M} (𝓛 : Logic 𝓤) (mem : Memory → SProp
         (λ e. by ! (leaving.leaves 𝓛 mem run κs qs a 𝓣 is-k waits known-ended l₀ l₁ l₂ l₃ l₄ l₅ l₆ l₇ l₈ l₉ l₁₀ l₁₁ l₁₂ l₁₃ l₁₄ l₁₅ l₁₆ l₁₇ l₁₈ l₁₉ l₂₀ l₂₁ l₂₂ l₂₃ l₂₄ l₂₅ l₂₆ l₂₇ l₂₈ l₂₉ l₃₀ l₃₁ σ e)))))))))))
 
     -- the state before the first line
-    module _ (fits : (foreignLine 1 s.now) < 2 ^ 64) (t : Turn) (is-t : t ≡ start_of (foreignLine 1 s.now)) (u : Val) (good : Is S.the_row t (u ∷ [])) where
+    module _ (fits : (foreign_line 1 s.now) < 2 ^ 64) (t : Turn) (is-t : t ≡ start_of (foreign_line 1 s.now)) (u : Val) (good : Is S.the_row t (u ∷ [])) where
       abbrev begun : Here
       begun = record { place = start rules.strict s.now a₀ fits; u = u; good = subst (λ (y : Turn). Is S.the_row y (u ∷ [])) is-t good }
 
     -- the body, from where the parameters are stored
     pub starts : Sq 𝓛 (locals.Entered 𝓛 mem run κs qs a l₀ l₁ l₂ l₃ l₄ l₅ l₆ l₇ l₈ l₉ l₁₀ l₁₁ l₁₂ l₁₃ l₁₄ l₁₅ l₁₆ l₁₇ l₁₈ l₁₉ l₂₀ l₂₁ l₂₂ l₂₃ l₂₄ l₂₅ l₂₆ l₂₇ l₂₈ l₂₉ l₃₀ l₃₁) (runs C Λ En parts.t-1 (at_ret En Post))
     starts =
-        move ! (64 ∷ []) $ use1 𝓛 (Token ⊛ (‵ Own ⊛ (‵ (Owned-all slots a₀) ⊛ ‵ (Tokens slots)))) apart $ split ! $ move ! (1 ∷ []) $ split ! $ move ! (1 ∷ []) $ split ! $
+        move ! (64 ∷ []) $ use1 𝓛 (Token ⊛ (‵ Own ⊛ (‵ (OwnedAll slots a₀) ⊛ ‵ (Tokens slots)))) apart $ split ! $ move ! (1 ∷ []) $ split ! $ move ! (1 ∷ []) $ split ! $
         -- [the slices; their tokens; the text; the text's token; _31; …]
         move ! (2 ∷ []) $ use1 𝓛 (‵ Own ⊛ ‵ Own) (calls.text-twice 𝓛 mem run κs qs a) $ split ! $ move ! (0 ∷ 4 ∷ []) $
         use2 𝓛 (raw ((Foreign 𝓛 mem run).pre (calls.to-foreign 𝓛 mem run κs qs a))) (calls.goes-foreign 𝓛 mem run κs qs a) $
         -- [what `foreign_line` asks; the text; the slices; their tokens; _31; …]
         calls_at ! fm (Foreign 𝓛 mem run) known-foreign (calls.to-foreign 𝓛 mem run κs qs a) (and_then ! (load ! (from ! (stop !)) (look ! 62 refl)) (no_more !)) (λ b.
         use1 𝓛 (later (some (λ (n : ℕ). (Token ⊛ ‵ (usize.own_val n (b ∷ []))) ⊛ raw (ensured 𝓛 foreign.ended (foreign.clauses 𝓛 mem run) (κ, tt) (s, tt) tt n)))) (id⊢ 𝓤 _) $ await ! tt $ pick ! (λ n.
-        split ! $ move ! (1 ∷ []) $ use1 𝓛 (raw (fact 𝓤 (n ≡ (foreignLine 1 s.now)))) (calls.foreign-said 𝓛 mem run κs qs a n) $ heard ! (n ≡ (foreignLine 1 s.now)) (λ is-n. split ! $ move ! (1 ∷ []) $
+        split ! $ move ! (1 ∷ []) $ use1 𝓛 (raw (fact 𝓤 (n ≡ (foreign_line 1 s.now)))) (calls.foreign-said 𝓛 mem run κs qs a n) $ heard ! (n ≡ (foreign_line 1 s.now)) (λ is-n. split ! $ move ! (1 ∷ []) $
         peeks ! usize (Is usize) (shows 𝓛 usize) n (b ∷ []) (λ is_b.
         land ! (from ! (stop !)) (init ! 49 refl ((uint_Lawful 𝓛 w64).typed n _ is_b).0) $ rewrite ! 49 (λ (w : Val). ‵ (fat full_share (ty_int w64) l₉ 0 w)) (ap only is_b.0 ∙ ap (vint w64) is-n) refl $ drop ! $
         -- [the text's token; the text; the slices; their tokens; _31; …]
-        use0 𝓛 (raw ((Start 𝓛 mem run).pre (calls.to_start 𝓛 mem run κs qs a (foreignLine 1 s.now)))) (calls.goes-start 𝓛 mem run κs qs a (foreignLine 1 s.now) (subst (λ (m : ℕ). m < 2 ^ 64) is-n is_b.1)) $
-        calls_at ! fm (Start 𝓛 mem run) Known-start (calls.to_start 𝓛 mem run κs qs a (foreignLine 1 s.now)) (and_then ! (load ! (from ! (stop !)) (look ! 49 refl)) (no_more !)) (λ u.
-        use1 𝓛 (later (some (λ (t : Turn). (‵ ftrue ⊛ ‵ ((S.the_row).own_val t (u ∷ []))) ⊛ raw (ensured 𝓛 starting.ended (starting.clauses 𝓛 mem run) tt ((foreignLine 1 s.now), tt) tt t)))) (id⊢ 𝓤 _) $ await ! tt $ pick ! (λ t.
-        split ! $ move ! (1 ∷ []) $ use1 𝓛 (raw (fact 𝓤 (t ≡ start_of (foreignLine 1 s.now)))) (calls.start-said 𝓛 mem run κs qs a (foreignLine 1 s.now) t) $ heard ! (t ≡ start_of (foreignLine 1 s.now)) (λ is-t. split ! $ drop ! $
+        use0 𝓛 (raw ((Start 𝓛 mem run).pre (calls.to_start 𝓛 mem run κs qs a (foreign_line 1 s.now)))) (calls.goes-start 𝓛 mem run κs qs a (foreign_line 1 s.now) (subst (λ (m : ℕ). m < 2 ^ 64) is-n is_b.1)) $
+        calls_at ! fm (Start 𝓛 mem run) Known-start (calls.to_start 𝓛 mem run κs qs a (foreign_line 1 s.now)) (and_then ! (load ! (from ! (stop !)) (look ! 49 refl)) (no_more !)) (λ u.
+        use1 𝓛 (later (some (λ (t : Turn). (‵ ftrue ⊛ ‵ ((S.the_row).own_val t (u ∷ []))) ⊛ raw (ensured 𝓛 starting.ended (starting.clauses 𝓛 mem run) tt ((foreign_line 1 s.now), tt) tt t)))) (id⊢ 𝓤 _) $ await ! tt $ pick ! (λ t.
+        split ! $ move ! (1 ∷ []) $ use1 𝓛 (raw (fact 𝓤 (t ≡ start_of (foreign_line 1 s.now)))) (calls.start-said 𝓛 mem run κs qs a (foreign_line 1 s.now) t) $ heard ! (t ≡ start_of (foreign_line 1 s.now)) (λ is-t. split ! $ drop ! $
         peeks ! S.the_row (Is S.the_row) (shows 𝓛 S.the_row) t (u ∷ []) (λ good.
         land ! (from ! (stop !)) (init ! 47 refl ((EL.lawful S.the_type S'.the_laws 𝓛 tt).typed t _ good).0) $ drop ! $
         move ! (1 ∷ []) $ use1 𝓛 (‵ Own ⊛ ‵ Own) (calls.text-twice 𝓛 mem run κs qs a) $ split ! $ move ! (0 ∷ 2 ∷ []) $ use2 𝓛 (raw ((New 𝓛 mem run).pre (calls.to-new 𝓛 mem run κs qs a))) (calls.goes-new 𝓛 mem run κs qs a) $
@@ -212,4 +212,4 @@ module _ {M : Type 1} {𝓤 : Ura M} (𝓛 : Logic 𝓤) (mem : Memory → SProp
         land ! (from ! (stop !)) (init ! 45 refl ((LL.lawful (T.the_type αᵉ) (T'.the_laws αᵉ) 𝓛).typed rd _ is_y).0) $
         rewrite ! 45 (λ (m : Val). ‵ (fat full_share (T'.mir erased) l₁₁ 0 m)) (calls.is-lowered 𝓛 mem run κs qs a rd y is_y ∙ ap T'.lowered (calls.is-reader 𝓛 mem run κs qs a rd 0 made)) refl $
         rewrite ! 0 (λ (m : Val). ‵ ((B (κ, tt)).own_val rd (m ∷ []))) (calls.is-lowered 𝓛 mem run κs qs a rd y is_y) refl $ rewrite ! 0 (λ (m : LineReader). ‵ ((B (κ, tt)).own_val m (T'.lowered m ∷ []))) (calls.is-reader 𝓛 mem run κs qs a rd 0 made) refl $
-        first ! $ blocks ! $ loops ! 𝓣 (Nearer rules.strict s.now a₀) (Nearer-wf rules.strict s.now a₀) At turns (begun (subst (λ (m : ℕ). m < 2 ^ 64) is-n is_b.1) t is-t u good)))))))))))))
+        first ! $ blocks ! $ loops ! 𝓣 (Nearer rules.strict s.now a₀) (NearerWf rules.strict s.now a₀) At turns (begun (subst (λ (m : ℕ). m < 2 ^ 64) is-n is_b.1) t is-t u good)))))))))))))

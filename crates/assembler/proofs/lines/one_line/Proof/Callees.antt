@@ -33,8 +33,8 @@ use denote.Triple.Walked.{says}
 use Rattle.labels.specs.declared.Label.{Label}
 use Rattle.labels.specs.declared.Found.{Found}
 use Rattle.labels.specs.Labels.{find}
-use Rattle.asm.specs.Reading.{toldItem, end_of, read}
-use Rattle.asm.specs.Views.{name_at, slotFor, labelFor, Within}
+use Rattle.asm.specs.Reading.{told_item, end_of, read}
+use Rattle.asm.specs.Views.{name_at, slot_for, label_for, Within}
 use Rattle.asm.specs.declared.Counts.{Counts}
 use Rattle.asm.specs.declared.Entry.{Entry}
 use Rattle.asm.specs.declared.Line.{Line}
@@ -110,8 +110,8 @@ module _ {M : Type 1} {𝓤 : Ura M} (𝓛 : Logic 𝓤) (mem : Memory → SProp
     abbrev pub ReadSays : Line → SProp 𝓤
     ReadSays r = ensured 𝓛 read-line.ended (read-line.clauses 𝓛 mem run) (κ, tt) (line, tt) tt r
 
-    pub read-says : (r : Line) → ent 𝓤 (ReadSays r) (sep 𝓤 (fact 𝓤 (toldItem r ≡ read line.now)) (fact 𝓤 (end_of r ≤ length line.now)))
-    read-says r = ex_e 𝓤 _ (λ ws. snd∗ 𝓤 (sem 𝓛 (lasts read-line.ended (κ, tt) (line, tt) ws)) (sep 𝓤 (fact 𝓤 (toldItem r ≡ read line.now)) (fact 𝓤 (end_of r ≤ length line.now))))
+    pub read-says : (r : Line) → ent 𝓤 (ReadSays r) (sep 𝓤 (fact 𝓤 (told_item r ≡ read line.now)) (fact 𝓤 (end_of r ≤ length line.now)))
+    read-says r = ex_e 𝓤 _ (λ ws. snd∗ 𝓤 (sem 𝓛 (lasts read-line.ended (κ, tt) (line, tt) ws)) (sep 𝓤 (fact 𝓤 (told_item r ≡ read line.now)) (fact 𝓤 (end_of r ≤ length line.now))))
 
   -- ---- `name_in`, the item's machine value being u
   module _ (κ : Lft) (q : Share) (text : Bor (List ℕ)) (at : ℕ) (item : Line) (u : Val) where
@@ -154,7 +154,7 @@ module _ {M : Type 1} {𝓤 : Ura M} (𝓛 : Logic 𝓤) (mem : Memory → SProp
     asks-enter is fits found counted few within = qed 𝓛 [] ∵ says ! within $ nothing ! $ owned ! usize (Is usize) (uint_Makes 𝓛 w64) most _ (refl, few) $ fjoin ! $ owned ! N.the_row (Is N.the_row) (LL.makes N.the_type N'.the_plain 𝓛) n _ counted $ fjoin ! $ owned ! F.the_row (Is F.the_row) (EL.makes F.the_type F'.the_plain 𝓛) f _ found $ fjoin ! $ owned ! usize (Is usize) (uint_Makes 𝓛 w64) at _ (refl, fits) $ fjoin ! $ owned ! I.the_row (Is I.the_row) (EL.makes I.the_type I'.the_plain 𝓛) item _ is $ fjoin ! $ nothing ! $ done !
 
     abbrev pub Entered : Entry → Type 0
-    Entered r = (r.slot ≡ slotFor item f n.labels most) × (r.label ≡ labelFor item at n.words.0)
+    Entered r = (r.slot ≡ slot_for item f n.labels most) × (r.label ≡ label_for item at n.words.0)
 
     abbrev pub EnterSays : Entry → SProp 𝓤
     EnterSays r = ensured 𝓛 entry-for.ended (entry-for.clauses 𝓛 mem run) tt (item, (at, (f, (n, (most, tt))))) tt r

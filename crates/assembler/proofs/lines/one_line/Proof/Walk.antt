@@ -47,9 +47,9 @@ use Rattle.labels.specs.declared.Found.{Found}
 use Rattle.labels.specs.declared.Open.{Open}
 use Rattle.labels.specs.Labels.{find}
 use Rattle.labels.specs.Opens.{opens_of}
-use Rattle.asm.specs.Reading.{toldItem, end_of, read}
+use Rattle.asm.specs.Reading.{told_item, end_of, read}
 use Rattle.asm.specs.Work.{task, turn}
-use Rattle.asm.specs.Views.{workOf, turned, words_in, labelsIn, waitingIn, name_at, Within}
+use Rattle.asm.specs.Views.{work_of, turned, words_in, labels_in, waiting_in, name_at, Within}
 use Rattle.asm.specs.declared.Counts.{Counts}
 use Rattle.asm.specs.declared.Entry.{Entry}
 use Rattle.asm.specs.declared.Line.{Line}
@@ -128,25 +128,25 @@ module _ {M : Type 1} {𝓤 : Ura M} (𝓛 : Logic 𝓤) (mem : Memory → SProp
   abbrev Held : List (Item 𝓤)
   Held = ‵ (flft κ₀ q₀) ∷ ‵ (flft κ₁ q₁) ∷ ‵ (flft κ₂ q₂) ∷ ‵ (flft κ₃ q₃) ∷ ‵ (flft κ₄ q₄) ∷ ‵ (flft κ₅ q₅) ∷ ‵ (flft κ₆ q₆) ∷ ‵ (flft κ₇ q₇) ∷ ‵ (Seen u8 κ₀ text) ∷ ‵ (Seen u8 κ₁ line) ∷ ‵ (Lent u16 κ₂ words) ∷ ‵ (Lent T.the_row κ₃ table) ∷ ‵ (Lent usize κ₄ places) ∷ ‵ (Lent usize κ₅ lengths) ∷ ‵ (Lent u16 κ₆ waits) ∷ ‵ (Lent u8 κ₇ references) ∷ []
 
-  abbrev Held-read : List (Item 𝓤)
-  Held-read = ‵ (flft κ₀ q₀) ∷ ‵ (flft κ₂ q₂) ∷ ‵ (flft κ₃ q₃) ∷ ‵ (flft κ₄ q₄) ∷ ‵ (flft κ₅ q₅) ∷ ‵ (flft κ₆ q₆) ∷ ‵ (flft κ₇ q₇) ∷ ‵ (Seen u8 κ₀ text) ∷ ‵ (Seen u8 κ₁ line) ∷ ‵ (Lent u16 κ₂ words) ∷ ‵ (Lent T.the_row κ₃ table) ∷ ‵ (Lent usize κ₄ places) ∷ ‵ (Lent usize κ₅ lengths) ∷ ‵ (Lent u16 κ₆ waits) ∷ ‵ (Lent u8 κ₇ references) ∷ []
+  abbrev HeldRead : List (Item 𝓤)
+  HeldRead = ‵ (flft κ₀ q₀) ∷ ‵ (flft κ₂ q₂) ∷ ‵ (flft κ₃ q₃) ∷ ‵ (flft κ₄ q₄) ∷ ‵ (flft κ₅ q₅) ∷ ‵ (flft κ₆ q₆) ∷ ‵ (flft κ₇ q₇) ∷ ‵ (Seen u8 κ₀ text) ∷ ‵ (Seen u8 κ₁ line) ∷ ‵ (Lent u16 κ₂ words) ∷ ‵ (Lent T.the_row κ₃ table) ∷ ‵ (Lent usize κ₄ places) ∷ ‵ (Lent usize κ₅ lengths) ∷ ‵ (Lent u16 κ₆ waits) ∷ ‵ (Lent u8 κ₇ references) ∷ []
 
-  abbrev Held-name : List (Item 𝓤)
-  Held-name = ‵ (flft κ₁ q₁) ∷ ‵ (flft κ₂ q₂) ∷ ‵ (flft κ₃ q₃) ∷ ‵ (flft κ₄ q₄) ∷ ‵ (flft κ₅ q₅) ∷ ‵ (flft κ₆ q₆) ∷ ‵ (flft κ₇ q₇) ∷ ‵ (Seen u8 κ₀ text) ∷ ‵ (Seen u8 κ₁ line) ∷ ‵ (Lent u16 κ₂ words) ∷ ‵ (Lent T.the_row κ₃ table) ∷ ‵ (Lent usize κ₄ places) ∷ ‵ (Lent usize κ₅ lengths) ∷ ‵ (Lent u16 κ₆ waits) ∷ ‵ (Lent u8 κ₇ references) ∷ []
+  abbrev HeldName : List (Item 𝓤)
+  HeldName = ‵ (flft κ₁ q₁) ∷ ‵ (flft κ₂ q₂) ∷ ‵ (flft κ₃ q₃) ∷ ‵ (flft κ₄ q₄) ∷ ‵ (flft κ₅ q₅) ∷ ‵ (flft κ₆ q₆) ∷ ‵ (flft κ₇ q₇) ∷ ‵ (Seen u8 κ₀ text) ∷ ‵ (Seen u8 κ₁ line) ∷ ‵ (Lent u16 κ₂ words) ∷ ‵ (Lent T.the_row κ₃ table) ∷ ‵ (Lent usize κ₄ places) ∷ ‵ (Lent usize κ₅ lengths) ∷ ‵ (Lent u16 κ₆ waits) ∷ ‵ (Lent u8 κ₇ references) ∷ []
 
   -- while the table is shared for ν
   abbrev Kept : ℕ → Fml
   Kept ν = LentShared T.the_row κ₃ (ν ∷ []) q₃ table.ghost_name table.ref_ptr.0 table.ref_ptr.1 table.now
 
-  abbrev Held-find : ℕ → List (Item 𝓤)
-  Held-find ν = ‵ (Kept ν) ∷ ‵ (flft κ₁ q₁) ∷ ‵ (flft κ₂ q₂) ∷ ‵ (flft κ₄ q₄) ∷ ‵ (flft κ₅ q₅) ∷ ‵ (flft κ₆ q₆) ∷ ‵ (flft κ₇ q₇) ∷ ‵ (Seen u8 κ₀ text) ∷ ‵ (Seen u8 κ₁ line) ∷ ‵ (Lent u16 κ₂ words) ∷ ‵ (Lent usize κ₄ places) ∷ ‵ (Lent usize κ₅ lengths) ∷ ‵ (Lent u16 κ₆ waits) ∷ ‵ (Lent u8 κ₇ references) ∷ []
+  abbrev HeldFind : ℕ → List (Item 𝓤)
+  HeldFind ν = ‵ (Kept ν) ∷ ‵ (flft κ₁ q₁) ∷ ‵ (flft κ₂ q₂) ∷ ‵ (flft κ₄ q₄) ∷ ‵ (flft κ₅ q₅) ∷ ‵ (flft κ₆ q₆) ∷ ‵ (flft κ₇ q₇) ∷ ‵ (Seen u8 κ₀ text) ∷ ‵ (Seen u8 κ₁ line) ∷ ‵ (Lent u16 κ₂ words) ∷ ‵ (Lent usize κ₄ places) ∷ ‵ (Lent usize κ₅ lengths) ∷ ‵ (Lent u16 κ₆ waits) ∷ ‵ (Lent u8 κ₇ references) ∷ []
 
-  abbrev Held-define : List (Item 𝓤)
-  Held-define = ‵ (flft κ₀ q₀) ∷ ‵ (flft κ₁ q₁) ∷ ‵ (flft κ₂ q₂) ∷ ‵ (flft κ₄ q₄) ∷ ‵ (flft κ₅ q₅) ∷ ‵ (flft κ₆ q₆) ∷ ‵ (flft κ₇ q₇) ∷ ‵ (Seen u8 κ₀ text) ∷ ‵ (Seen u8 κ₁ line) ∷ ‵ (Lent u16 κ₂ words) ∷ ‵ (Lent usize κ₄ places) ∷ ‵ (Lent usize κ₅ lengths) ∷ ‵ (Lent u16 κ₆ waits) ∷ ‵ (Lent u8 κ₇ references) ∷ []
+  abbrev HeldDefine : List (Item 𝓤)
+  HeldDefine = ‵ (flft κ₀ q₀) ∷ ‵ (flft κ₁ q₁) ∷ ‵ (flft κ₂ q₂) ∷ ‵ (flft κ₄ q₄) ∷ ‵ (flft κ₅ q₅) ∷ ‵ (flft κ₆ q₆) ∷ ‵ (flft κ₇ q₇) ∷ ‵ (Seen u8 κ₀ text) ∷ ‵ (Seen u8 κ₁ line) ∷ ‵ (Lent u16 κ₂ words) ∷ ‵ (Lent usize κ₄ places) ∷ ‵ (Lent usize κ₅ lengths) ∷ ‵ (Lent u16 κ₆ waits) ∷ ‵ (Lent u8 κ₇ references) ∷ []
 
   -- where the table was left at the list ts
-  abbrev Held-do : List Label → List (Item 𝓤)
-  Held-do ts = ‵ (finally T.the_row table.name ts) ∷ ‵ (flft κ₃ q₃) ∷ ‵ (flft κ₁ q₁) ∷ ‵ (Seen u8 κ₀ text) ∷ ‵ (Seen u8 κ₁ line) ∷ []
+  abbrev HeldDo : List Label → List (Item 𝓤)
+  HeldDo ts = ‵ (finally T.the_row table.name ts) ∷ ‵ (flft κ₃ q₃) ∷ ‵ (flft κ₁ q₁) ∷ ‵ (Seen u8 κ₀ text) ∷ ‵ (Seen u8 κ₁ line) ∷ []
 
   -- ---- the tokens that come back from a call
   abbrev token₀ : Item 𝓤
@@ -190,7 +190,7 @@ module _ {M : Type 1} {𝓤 : Ura M} (𝓛 : Logic 𝓤) (mem : Memory → SProp
 
   -- ---- what each says
   abbrev Told : Line → Type 0
-  Told item = toldItem item ≡ read line.now
+  Told item = told_item item ≡ read line.now
 
   abbrev Ends : Line → Type 0
   Ends item = end_of item ≤ length line.now
@@ -207,8 +207,8 @@ module _ {M : Type 1} {𝓤 : Ura M} (𝓛 : Logic 𝓤) (mem : Memory → SProp
   said-find : (name : MutBor (List ℕ)) (v : Val) (ν : ℕ) (δ : GName) (f : Found) → ent 𝓤 (FindSays 𝓛 mem run κ₀ (ν ∷ []) κ₀ (PosShare.left q₀) full_share (PosShare.right q₀) text (under δ) n.labels name v f) (fact 𝓤 (Looked name f))
   said-find name v ν δ f = find-says 𝓛 mem run κ₀ (ν ∷ []) κ₀ (PosShare.left q₀) full_share (PosShare.right q₀) text (under δ) n.labels name v f
 
-  abbrev Left-by-define : Entry → List Label × (Unit {0} × (Unit {0} × Unit {0})) → Fml
-  Left-by-define e zs = lasts define.ended (κ₃, tt) (stored 𝓛 mem run κ₃ q₃ table e.slot e.label) zs
+  abbrev LeftByDefine : Entry → List Label × (Unit {0} × (Unit {0} × Unit {0})) → Fml
+  LeftByDefine e zs = lasts define.ended (κ₃, tt) (stored 𝓛 mem run κ₃ q₃ table e.slot e.label) zs
 
   -- ---- what comes back from each, its result at a machine value
   abbrev after_read : Val → Item 𝓤
@@ -240,46 +240,46 @@ module _ {M : Type 1} {𝓤 : Ura M} (𝓛 : Logic 𝓤) (mem : Memory → SProp
       keep ! (20 ∷ 19 ∷ 18 ∷ 17 ∷ 16 ∷ 15 ∷ 14 ∷ 12 ∷ 10 ∷ 8 ∷ 6 ∷ 5 ∷ 4 ∷ 3 ∷ 2 ∷ 0 ∷ []) $ done !
 
   -- ---- what each callee asks, and what is kept meanwhile
-  goes-read : ent 𝓤 (⋆ 𝓛 Held) (sep 𝓤 ((Reads 𝓛 mem run).pre to-reading) (⋆ 𝓛 Held-read))
+  goes-read : ent 𝓤 (⋆ 𝓛 Held) (sep 𝓤 ((Reads 𝓛 mem run).pre to-reading) (⋆ 𝓛 HeldRead))
   goes-read =
       qed 𝓛 Held ∵ move ! (9 ∷ []) $ use1 𝓛 (‵ (Seen u8 κ₁ line) ⊛ ‵ (Seen u8 κ₁ line)) ((shr_slice_copy 𝓛 (named 0) κ₁ u8).twice line (shr_slice_vals line)) $ split ! $ move ! (3 ∷ 0 ∷ []) $ use2 𝓛 (raw ((Reads 𝓛 mem run).pre to-reading)) (asks_read 𝓛 mem run κ₁ q₁ line) $
       keep ! (0 ∷ 2 ∷ 3 ∷ 4 ∷ 5 ∷ 6 ∷ 7 ∷ 8 ∷ 9 ∷ 1 ∷ 10 ∷ 11 ∷ 12 ∷ 13 ∷ 14 ∷ 15 ∷ []) $ done !
 
   goes-name : (item : Line) (u : Val) → at < 2 ^ 64 → Is I.the_row item (u ∷ []) → at + end_of item ≤ length text.now
-      → ent 𝓤 (⋆ 𝓛 (token₁ ∷ Held-read)) (sep 𝓤 ((Names 𝓛 mem run).pre (to-naming item u)) (⋆ 𝓛 Held-name))
+      → ent 𝓤 (⋆ 𝓛 (token₁ ∷ HeldRead)) (sep 𝓤 ((Names 𝓛 mem run).pre (to-naming item u)) (⋆ 𝓛 HeldName))
   goes-name item u fits is within =
-      qed 𝓛 (token₁ ∷ Held-read) ∵ split ! $ move ! (9 ∷ []) $ use1 𝓛 (‵ (Seen u8 κ₀ text) ⊛ ‵ (Seen u8 κ₀ text)) ((shr_slice_copy 𝓛 (named 0) κ₀ u8).twice text (shr_slice_vals text)) $ split ! $ move ! (4 ∷ 0 ∷ []) $
+      qed 𝓛 (token₁ ∷ HeldRead) ∵ split ! $ move ! (9 ∷ []) $ use1 𝓛 (‵ (Seen u8 κ₀ text) ⊛ ‵ (Seen u8 κ₀ text)) ((shr_slice_copy 𝓛 (named 0) κ₀ u8).twice text (shr_slice_vals text)) $ split ! $ move ! (4 ∷ 0 ∷ []) $
       use2 𝓛 (raw ((Names 𝓛 mem run).pre (to-naming item u))) (asks-name 𝓛 mem run κ₀ q₀ text at item u fits is within) $ keep ! (0 ∷ 2 ∷ 4 ∷ 5 ∷ 6 ∷ 7 ∷ 8 ∷ 9 ∷ 1 ∷ 10 ∷ 11 ∷ 12 ∷ 13 ∷ 14 ∷ 15 ∷ 16 ∷ []) $ done !
 
   abbrev FindAsked : MutBor (List ℕ) → Val → ℕ → SProp 𝓤
-  FindAsked name v ν = ex 𝓤 (λ (δ : GName). sep 𝓤 ((Finds 𝓛 mem run).pre (to-finding name v ν δ)) (⋆ 𝓛 (Held-find ν)))
+  FindAsked name v ν = ex 𝓤 (λ (δ : GName). sep 𝓤 ((Finds 𝓛 mem run).pre (to-finding name v ν δ)) (⋆ 𝓛 (HeldFind ν)))
 
   -- a lifetime is made for the call, and the table shared for it
-  goes-find : (name : Bor (List ℕ)) (v : Val) → n.labels < 2 ^ 64 → ent 𝓤 (⋆ 𝓛 (‵ ((ShrSlice (named 0) κ₀ u8).own_val name (v ∷ [])) ∷ token₀ ∷ Held-name)) (H.⇛ (ex 𝓤 (FindAsked name v)))
+  goes-find : (name : Bor (List ℕ)) (v : Val) → n.labels < 2 ^ 64 → ent 𝓤 (⋆ 𝓛 (‵ ((ShrSlice (named 0) κ₀ u8).own_val name (v ∷ [])) ∷ token₀ ∷ HeldName)) (H.⇛ (ex 𝓤 (FindAsked name v)))
   goes-find name v small =
-      qed 𝓛 (‵ ((ShrSlice (named 0) κ₀ u8).own_val name (v ∷ [])) ∷ token₀ ∷ Held-name) ∵ updating ! $ move ! (1 ∷ []) $ split ! $ move ! (10 ∷ []) $ use1 𝓛 (‵ (Seen u8 κ₀ text) ⊛ ‵ (Seen u8 κ₀ text)) ((shr_slice_copy 𝓛 (named 0) κ₀ u8).twice text (shr_slice_vals text)) $ split ! $ move ! (2 ∷ []) $
+      qed 𝓛 (‵ ((ShrSlice (named 0) κ₀ u8).own_val name (v ∷ [])) ∷ token₀ ∷ HeldName) ∵ updating ! $ move ! (1 ∷ []) $ split ! $ move ! (10 ∷ []) $ use1 𝓛 (‵ (Seen u8 κ₀ text) ⊛ ‵ (Seen u8 κ₀ text)) ((shr_slice_copy 𝓛 (named 0) κ₀ u8).twice text (shr_slice_vals text)) $ split ! $ move ! (2 ∷ []) $
       use1 𝓛 (‵ (flft κ₀ (PosShare.left q₀)) ⊛ ‵ (flft κ₀ (PosShare.right q₀))) (𝓛.lfts.lft_split κ₀ q₀) $ split ! $ lft_new ! tt (λ ν. move ! (16 ∷ 9 ∷ []) $
       use2 𝓛 (later (some (λ (δ : GName). ‵ (Seen T.the_row (ν ∷ []) (under δ)) ⊛ ‵ (Kept ν)))) (lends_shared T.the_row κ₃ (ν ∷ []) q₃ table.ghost_name table.ref_ptr.0 table.ref_ptr.1 𝓛 (named 3) (named 0) table.now) $ await ! tt $ pick ! (λ δ. split ! $ move ! (3 ∷ 2 ∷ 4 ∷ 5 ∷ 0 ∷ 8 ∷ []) $
       group ! 6 $ use1 𝓛 (raw ((Finds 𝓛 mem run).pre (to-finding name v ν δ))) (asks-find 𝓛 mem run κ₀ (ν ∷ []) κ₀ (PosShare.left q₀) full_share (PosShare.right q₀) text (under δ) n.labels name v small) $ at_once ! $ show ! (FindAsked name v) ν $
-      show ! (λ (ε : GName). sep 𝓤 ((Finds 𝓛 mem run).pre (to-finding name v ν ε)) (⋆ 𝓛 (Held-find ν))) δ $ keep ! (0 ∷ 1 ∷ 4 ∷ 5 ∷ 6 ∷ 7 ∷ 8 ∷ 9 ∷ 2 ∷ 10 ∷ 11 ∷ 12 ∷ 13 ∷ 14 ∷ 15 ∷ []) $ done !))
+      show ! (λ (ε : GName). sep 𝓤 ((Finds 𝓛 mem run).pre (to-finding name v ν ε)) (⋆ 𝓛 (HeldFind ν))) δ $ keep ! (0 ∷ 1 ∷ 4 ∷ 5 ∷ 6 ∷ 7 ∷ 8 ∷ 9 ∷ 2 ∷ 10 ∷ 11 ∷ 12 ∷ 13 ∷ 14 ∷ 15 ∷ []) $ done !))
 
   -- it is ended, and the table comes back
-  back-find : (ν : ℕ) → Room T.the_row (length table.now) → ent 𝓤 (⋆ 𝓛 (tokens-find ν ∷ Held-find ν)) (H.⇛ (⋆ 𝓛 Held))
+  back-find : (ν : ℕ) → Room T.the_row (length table.now) → ent 𝓤 (⋆ 𝓛 (tokens-find ν ∷ HeldFind ν)) (H.⇛ (⋆ 𝓛 Held))
   back-find ν room =
-      qed 𝓛 (tokens-find ν ∷ Held-find ν) ∵ updating ! $ split ! $ move ! (1 ∷ []) $ split ! $ move ! (1 ∷ []) $ split ! $ move ! (3 ∷ 0 ∷ []) $ use2 𝓛 (‵ (flft κ₀ q₀)) (𝓛.lfts.lft_join κ₀ q₀) $ move ! (2 ∷ []) $ lft_end ! tt $ move ! (0 ∷ 3 ∷ []) $
+      qed 𝓛 (tokens-find ν ∷ HeldFind ν) ∵ updating ! $ split ! $ move ! (1 ∷ []) $ split ! $ move ! (1 ∷ []) $ split ! $ move ! (3 ∷ 0 ∷ []) $ use2 𝓛 (‵ (flft κ₀ q₀)) (𝓛.lfts.lft_join κ₀ q₀) $ move ! (2 ∷ []) $ lft_end ! tt $ move ! (0 ∷ 3 ∷ []) $
       use2 𝓛 (later (‵ (Lent T.the_row κ₃ table) ⊛ ‵ (flft κ₃ q₃))) (shared_back T.the_row κ₃ (ν ∷ []) q₃ table.ghost_name table.ref_ptr.0 table.ref_ptr.1 𝓛 (named 3) (named 0) table.now room) $ await ! tt $ split ! $ at_once ! $
       keep ! (2 ∷ 4 ∷ 5 ∷ 1 ∷ 6 ∷ 7 ∷ 8 ∷ 9 ∷ 10 ∷ 11 ∷ 12 ∷ 0 ∷ 13 ∷ 14 ∷ 15 ∷ 16 ∷ []) $ done !
 
-  goes-define : (e : Entry) → e.slot < 2 ^ 64 → Is T.the_row e.label (T'.lowered e.label ∷ []) → ent 𝓤 (⋆ 𝓛 Held) (sep 𝓤 ((Stores 𝓛 mem run).pre (to-storing e)) (⋆ 𝓛 Held-define))
+  goes-define : (e : Entry) → e.slot < 2 ^ 64 → Is T.the_row e.label (T'.lowered e.label ∷ []) → ent 𝓤 (⋆ 𝓛 Held) (sep 𝓤 ((Stores 𝓛 mem run).pre (to-storing e)) (⋆ 𝓛 HeldDefine))
   goes-define e fits is =
       qed 𝓛 Held ∵ move ! (3 ∷ 11 ∷ []) $ use2 𝓛 (raw ((Stores 𝓛 mem run).pre (to-storing e))) (asks-define 𝓛 mem run κ₃ q₃ table e.slot e.label fits is) $ keep ! (0 ∷ 1 ∷ 2 ∷ 3 ∷ 4 ∷ 5 ∷ 6 ∷ 7 ∷ 8 ∷ 9 ∷ 10 ∷ 11 ∷ 12 ∷ 13 ∷ 14 ∷ []) $ done !
 
   goes-do : (ts : List Label) (item : Line) (f : Found) (u w : Val) → Is R.the_row rules (R'.lowered rules ∷ []) → at < 2 ^ 64 → Is I.the_row item (u ∷ []) → Is F.the_row f (w ∷ []) → length table.now < 2 ^ 64 → Is N.the_row n (N'.lowered n ∷ [])
       → at + end_of item ≤ length text.now → Within n.words.0 n.labels n.waiting (length words.now) (length table.now)
       → (length places.now ≡ 512) × (length lengths.now ≡ 512) × (length waits.now ≡ 512) × (length references.now ≡ 512)
-      → ent 𝓤 (⋆ 𝓛 (‵ (finally T.the_row table.name ts) ∷ token₃ ∷ Held-define)) (sep 𝓤 ((Does 𝓛 mem run).pre (to-doing item f u w)) (⋆ 𝓛 (Held-do ts)))
+      → ent 𝓤 (⋆ 𝓛 (‵ (finally T.the_row table.name ts) ∷ token₃ ∷ HeldDefine)) (sep 𝓤 ((Does 𝓛 mem run).pre (to-doing item f u w)) (⋆ 𝓛 (HeldDo ts)))
   goes-do ts item f u w ruled fits is found few counted within room all =
-      qed 𝓛 (‵ (finally T.the_row table.name ts) ∷ token₃ ∷ Held-define) ∵ move ! (1 ∷ []) $ split ! $ move ! (10 ∷ []) $ use1 𝓛 (‵ (Seen u8 κ₀ text) ⊛ ‵ (Seen u8 κ₀ text)) ((shr_slice_copy 𝓛 (named 0) κ₀ u8).twice text (mut_slice_vals text)) $ split ! $ move ! (5 ∷ 7 ∷ 8 ∷ 9 ∷ 10 ∷ 11 ∷ 0 ∷ 13 ∷ 14 ∷ 15 ∷ 16 ∷ 17 ∷ []) $ group ! 12 $
+      qed 𝓛 (‵ (finally T.the_row table.name ts) ∷ token₃ ∷ HeldDefine) ∵ move ! (1 ∷ []) $ split ! $ move ! (10 ∷ []) $ use1 𝓛 (‵ (Seen u8 κ₀ text) ⊛ ‵ (Seen u8 κ₀ text)) ((shr_slice_copy 𝓛 (named 0) κ₀ u8).twice text (mut_slice_vals text)) $ split ! $ move ! (5 ∷ 7 ∷ 8 ∷ 9 ∷ 10 ∷ 11 ∷ 0 ∷ 13 ∷ 14 ∷ 15 ∷ 16 ∷ 17 ∷ []) $ group ! 12 $
       use1 𝓛 (raw ((Does 𝓛 mem run).pre (to-doing item f u w))) (asks-do 𝓛 mem run κ₀ κ₂ κ₄ κ₅ κ₆ κ₇ q₀ q₂ q₄ q₅ q₆ q₇ rules text at item f (length table.now) n words places lengths waits references u w ruled fits is found few counted within room all) $ keep ! (0 ∷ 4 ∷ 2 ∷ 5 ∷ 1 ∷ 6 ∷ []) $
       done !
 
@@ -288,7 +288,7 @@ module _ {M : Type 1} {𝓤 : Ura M} (𝓛 : Logic 𝓤) (mem : Memory → SProp
   Opens = opens_of places.now lengths.now waits.now references.now
 
   abbrev Fits : Turn → Type 0
-  Fits r = Within (words_in r) (labelsIn r) (waitingIn r) (length words.now) (length table.now)
+  Fits r = Within (words_in r) (labels_in r) (waiting_in r) (length words.now) (length table.now)
 
   module _ (item : Line) (f : Found) (u w : Val) where
     -- the lists that `do_line` leaves
@@ -301,8 +301,8 @@ module _ {M : Type 1} {𝓤 : Ura M} (𝓛 : Logic 𝓤) (mem : Memory → SProp
     abbrev opens-left : Left → List Open
     opens-left ws = opens_of ws.1.1.1.1.1.1.1.1.0 ws.1.1.1.1.1.1.1.1.1.0 ws.1.1.1.1.1.1.1.1.1.1.0 ws.1.1.1.1.1.1.1.1.1.1.1.0
 
-    abbrev Left-by-do : Left → Fml
-    Left-by-do ws = lasts do-line.ended (during 𝓛 mem run κ₀ κ₂ κ₄ κ₅ κ₆ κ₇ q₀ q₂ q₄ q₅ q₆ q₇ rules text at item f (length table.now) n words places lengths waits references u w)
+    abbrev LeftByDo : Left → Fml
+    LeftByDo ws = lasts do-line.ended (during 𝓛 mem run κ₀ κ₂ κ₄ κ₅ κ₆ κ₇ q₀ q₂ q₄ q₅ q₆ q₇ rules text at item f (length table.now) n words places lengths waits references u w)
         (done-with 𝓛 mem run κ₀ κ₂ κ₄ κ₅ κ₆ κ₇ q₀ q₂ q₄ q₅ q₆ q₇ rules text at item f (length table.now) n words places lengths waits references u w) ws
 
     -- what it says of its result, and what is to be said of it
@@ -310,15 +310,15 @@ module _ {M : Type 1} {𝓤 : Ura M} (𝓛 : Logic 𝓤) (mem : Memory → SProp
     Did r ws = Done rules.strict text.now at item f (length table.now) n words.now Opens r (words_left ws) (opens-left ws)
 
     abbrev Right : Turn → List Label → Left → Type 0
-    Right r ts ws = turned r (words_left ws) ts (opens-left ws) ≡ turn (task rules.strict text.now (length words.now) (length table.now)) at (read line.now) (workOf n words.now table.now Opens)
+    Right r ts ws = turned r (words_left ws) ts (opens-left ws) ≡ turn (task rules.strict text.now (length words.now) (length table.now)) at (read line.now) (work_of n words.now table.now Opens)
 
     abbrev End : Turn → Val → List Label → Left → List (Item 𝓤)
-    End r t ts ws = ‵ ((U.the_row).own_val r (t ∷ [])) ∷ tokens-do ∷ ‵ (Left-by-do ws) ∷ packed (Held-do ts) ∷ []
+    End r t ts ws = ‵ ((U.the_row).own_val r (t ∷ [])) ∷ tokens-do ∷ ‵ (LeftByDo ws) ∷ packed (HeldDo ts) ∷ []
 
     exits : (r : Turn) (t : Val) (ts : List Label) (ws : Left) → Is R.the_row rules (R'.lowered rules ∷ []) → at < 2 ^ 64 → Is N.the_row n (N'.lowered n ∷ []) → length ts ≡ length table.now → Right r ts ws → Fits r
         → ent 𝓤 (⋆ 𝓛 (End r t ts ws)) (Post t)
     exits r t ts ws ruled fits counted same right fit =
-        qed 𝓛 (‵ ((U.the_row).own_val r (t ∷ [])) ∷ tokens-do ∷ ‵ (Left-by-do ws) ∷ Held-do ts) ∵ move ! (2 ∷ []) $ fsplit ! $ drop ! $ fsplit ! $ drop ! $ fsplit ! $ drop ! $ fsplit ! $ drop ! $ fsplit ! $ drop ! $ fsplit ! $ drop ! $ fsplit ! $ drop ! $ fsplit ! $ fsplit ! $ move ! (1 ∷ []) $ feq_l ! (λ e₀. move ! (1 ∷ []) $ fsplit ! $ fsplit ! $ move ! (1 ∷ []) $
+        qed 𝓛 (‵ ((U.the_row).own_val r (t ∷ [])) ∷ tokens-do ∷ ‵ (LeftByDo ws) ∷ HeldDo ts) ∵ move ! (2 ∷ []) $ fsplit ! $ drop ! $ fsplit ! $ drop ! $ fsplit ! $ drop ! $ fsplit ! $ drop ! $ fsplit ! $ drop ! $ fsplit ! $ drop ! $ fsplit ! $ drop ! $ fsplit ! $ fsplit ! $ move ! (1 ∷ []) $ feq_l ! (λ e₀. move ! (1 ∷ []) $ fsplit ! $ fsplit ! $ move ! (1 ∷ []) $
         feq_l ! (λ e₁. move ! (1 ∷ []) $ fsplit ! $ fsplit ! $ move ! (1 ∷ []) $ feq_l ! (λ e₂. move ! (1 ∷ []) $ fsplit ! $ fsplit ! $ move ! (1 ∷ []) $ feq_l ! (λ e₃. move ! (1 ∷ []) $ fsplit ! $ fsplit ! $ move ! (1 ∷ []) $ feq_l ! (λ e₄. move ! (1 ∷ []) $
         suffices ! _ (ends_at 𝓛 one_line.ended stayed (one_line.clauses 𝓛 mem run) bound t r (tt, (tt, (tt, (tt, (tt, (ws.1.1.1.1.1.1.1.0, (ts, (ws.1.1.1.1.1.1.1.1.0, (ws.1.1.1.1.1.1.1.1.1.0, (ws.1.1.1.1.1.1.1.1.1.1.0, (ws.1.1.1.1.1.1.1.1.1.1.1.0, tt))))))))))) (tt, (tt, (tt, (tt, (tt, (e₀, (same, (e₁, (e₂, (e₃, (e₄, tt)))))))))))) $
         suffices ! _ (says_two 𝓛 right fit) $ move ! (7 ∷ []) $ split ! $ move ! (1 ∷ []) $ split ! $ move ! (1 ∷ []) $ split ! $ move ! (1 ∷ []) $ split ! $ move ! (1 ∷ []) $ split ! $ move ! (1 ∷ []) $ split ! $ join ! $ move ! (1 ∷ 0 ∷ []) $ join ! $ move ! (1 ∷ 0 ∷ []) $ join ! $
@@ -384,9 +384,9 @@ module _ {M : Type 1} {𝓤 : Ura M} (𝓛 : Logic 𝓤) (mem : Memory → SProp
           -- `define`
           assigns ! (addr ! (from ! (fld ! refl (hop ! (look_in ! 49 (sub ! 0 refl (whole !))) (stop !))))) (from ! (stop !)) (init ! 23 refl (tt, tt)) $
           assigns ! (agg ! (and_then ! (load ! (from ! (stop !)) (look ! 23 refl)) (and_then ! (load ! (from ! (fld ! refl (stop !))) (look_in ! 49 (sub ! 1 refl (whole !)))) (no_more !)))) (from ! (stop !)) (init ! 21 refl (tt, (tt, (record { fits = gt.0 }, tt)))) $
-          use1 𝓛 (raw ((Stores 𝓛 mem run).pre (to-storing e)) ⊛ packed Held-define) (goes-define e (LL.owed E.the_type E'.the_laws e _ es).0.1 (LL.owed E.the_type E'.the_laws e _ es).1.0) $ split ! $
+          use1 𝓛 (raw ((Stores 𝓛 mem run).pre (to-storing e)) ⊛ packed HeldDefine) (goes-define e (LL.owed E.the_type E'.the_laws e _ es).0.1 (LL.owed E.the_type E'.the_laws e _ es).1.0) $ split ! $
           calls_at ! fm (Stores 𝓛 mem run) known-define (to-storing e) (and_then ! (load ! (from ! (stop !)) (look ! 22 refl)) (and_then ! (load ! (from ! (fld ! refl (stop !))) (look_in ! 32 (sub ! 0 refl (whole !)))) (and_then ! (load ! (from ! (fld ! refl (stop !))) (look_in ! 32 (sub ! 1 refl (whole !)))) (no_more !)))) (λ y.
-          use1 𝓛 (after-define e y) (id⊢ 𝓤 _) $ await ! tt $ pick ! (λ z. split ! $ move ! (1 ∷ []) $ use1 𝓛 (some (λ (zs : List Label × (Unit {0} × (Unit {0} × Unit {0}))). ‵ (Left-by-define e zs) ⊛ raw (fact 𝓤 (zs.0 ≡ set table.now e.slot e.label)))) (id⊢ 𝓤 _) $ pick ! (λ zs.
+          use1 𝓛 (after-define e y) (id⊢ 𝓤 _) $ await ! tt $ pick ! (λ z. split ! $ move ! (1 ∷ []) $ use1 𝓛 (some (λ (zs : List Label × (Unit {0} × (Unit {0} × Unit {0}))). ‵ (LeftByDefine e zs) ⊛ raw (fact 𝓤 (zs.0 ≡ set table.now e.slot e.label)))) (id⊢ 𝓤 _) $ pick ! (λ zs.
           split ! $ move ! (1 ∷ []) $ heard ! (zs.0 ≡ set table.now e.slot e.label) (λ put. fsplit ! $ fsplit ! $ move ! (1 ∷ []) $ feq_l ! (λ same. move ! (2 ∷ []) $ split ! $ move ! (1 ∷ []) $ feq_l ! (λ no.
           -- [its token; the table's last list; true; what is held; the locals]
           land ! (from ! (stop !)) (init ! 28 refl (subst (λ (s : Val). Holds (has_ty ty_unit s) × WT s) (sym (ap only no)) (tt, tt))) $ move ! (2 ∷ []) $ drop ! $
@@ -401,9 +401,9 @@ module _ {M : Type 1} {𝓤 : Ura M} (𝓛 : Logic 𝓤) (mem : Memory → SProp
           assigns ! (agg ! (and_then ! (load ! (from ! (stop !)) (look ! 9 refl)) (and_then ! (load ! (from ! (fld ! refl (stop !))) (look_in ! 45 (sub ! 1 refl (whole !)))) (no_more !)))) (from ! (stop !)) (init ! 7 refl (tt, (tt, (record { fits = gv.0 }, tt)))) $
           assigns ! (addr ! (from ! (fld ! refl (hop ! (look_in ! 43 (sub ! 0 refl (whole !))) (stop !))))) (from ! (stop !)) (init ! 5 refl (tt, tt)) $
           assigns ! (agg ! (and_then ! (load ! (from ! (stop !)) (look ! 5 refl)) (and_then ! (load ! (from ! (fld ! refl (stop !))) (look_in ! 43 (sub ! 1 refl (whole !)))) (no_more !)))) (from ! (stop !)) (init ! 3 refl (tt, (tt, (record { fits = gr.0 }, tt)))) $
-          move ! (1 ∷ 0 ∷ []) $ use3 𝓛 (raw ((Does 𝓛 mem run).pre (to-doing item f u w)) ⊛ packed (Held-do zs.0)) (goes-do zs.0 item f u w ruled fits is fs gt.0 counted (item-within text.now line.now at item inside ends) room all) $ split ! $
+          move ! (1 ∷ 0 ∷ []) $ use3 𝓛 (raw ((Does 𝓛 mem run).pre (to-doing item f u w)) ⊛ packed (HeldDo zs.0)) (goes-do zs.0 item f u w ruled fits is fs gt.0 counted (item-within text.now line.now at item inside ends) room all) $ split ! $
           calls_at ! fm (Does 𝓛 mem run) known-do (to-doing item f u w) (and_then ! (load ! (from ! (stop !)) (look ! 62 refl)) (and_then ! (load ! (from ! (stop !)) (look ! 60 refl)) (and_then ! (load ! (from ! (stop !)) (look ! 58 refl)) (and_then ! (load ! (from ! (stop !)) (look ! 40 refl)) (and_then ! (load ! (from ! (stop !)) (look ! 34 refl)) (and_then ! (load ! (from ! (stop !)) (look ! 38 refl)) (and_then ! (load ! (from ! (stop !)) (look ! 54 refl)) (and_then ! (load ! (from ! (stop !)) (look ! 18 refl)) (and_then ! (load ! (from ! (stop !)) (look ! 14 refl)) (and_then ! (load ! (from ! (stop !)) (look ! 10 refl)) (and_then ! (load ! (from ! (stop !)) (look ! 6 refl)) (and_then ! (load ! (from ! (stop !)) (look ! 2 refl)) (no_more !))))))))))))) (λ t.
-          use1 𝓛 (after-do item f u w t) (id⊢ 𝓤 _) $ await ! tt $ pick ! (λ r. split ! $ move ! (1 ∷ []) $ use1 𝓛 (some (λ (ws : Left item f u w). ‵ (Left-by-do item f u w ws) ⊛ (raw (fact 𝓤 (Did item f u w r ws)) ⊛ raw (fact 𝓤 (Fits r))))) (id⊢ 𝓤 _) $ pick ! (λ ws.
+          use1 𝓛 (after-do item f u w t) (id⊢ 𝓤 _) $ await ! tt $ pick ! (λ r. split ! $ move ! (1 ∷ []) $ use1 𝓛 (some (λ (ws : Left item f u w). ‵ (LeftByDo item f u w ws) ⊛ (raw (fact 𝓤 (Did item f u w r ws)) ⊛ raw (fact 𝓤 (Fits r))))) (id⊢ 𝓤 _) $ pick ! (λ ws.
           split ! $ move ! (1 ∷ []) $ split ! $ heard ! (Did item f u w r ws) (λ did. heard ! (Fits r) (λ kept. move ! (1 ∷ []) $ split ! $ move ! (1 ∷ []) $ peeks ! U.the_row (Is U.the_row) (shows 𝓛 U.the_row) r (t ∷ []) (λ rs.
           -- [the result; the tokens; what is left of the lists; what is held; the locals]
           land ! (from ! (stop !)) (init ! 66 refl ((EL.lawful U.the_type U'.the_laws 𝓛 tt).typed r _ rs).0) $ returns ! (look ! 66 refl) $
@@ -414,14 +414,14 @@ module _ {M : Type 1} {𝓤 : Ura M} (𝓛 : Logic 𝓤) (mem : Memory → SProp
       reading : Sq 𝓛 Begun (runs C Λ En parts.t-1 (at_ret En Kf))
       reading =
           -- `read_line`
-          move ! (64 ∷ []) $ use1 𝓛 (raw ((Reads 𝓛 mem run).pre to-reading) ⊛ packed Held-read) goes-read $ split ! $ calls_at ! fm (Reads 𝓛 mem run) known_read to-reading (and_then ! (load ! (from ! (stop !)) (look ! 56 refl)) (no_more !)) (λ u.
+          move ! (64 ∷ []) $ use1 𝓛 (raw ((Reads 𝓛 mem run).pre to-reading) ⊛ packed HeldRead) goes-read $ split ! $ calls_at ! fm (Reads 𝓛 mem run) known_read to-reading (and_then ! (load ! (from ! (stop !)) (look ! 56 refl)) (no_more !)) (λ u.
           use1 𝓛 (after_read u) (id⊢ 𝓤 _) $ await ! tt $ pick ! (λ item. split ! $ move ! (1 ∷ []) $ use1 𝓛 (raw (fact 𝓤 (Told item)) ⊛ raw (fact 𝓤 (Ends item))) (read-says 𝓛 mem run κ₁ q₁ line item) $ split ! $
           heard ! (Told item) (λ told. heard ! (Ends item) (λ ends. split ! $ move ! (1 ∷ []) $ facts ! I.the_row (Is I.the_row) (shows 𝓛 I.the_row) item (u ∷ []) (λ is.
           -- [its token; what is held; the locals]
           land ! (from ! (stop !)) (init ! 40 refl ((EL.lawful I.the_type I'.the_laws 𝓛 tt).typed item _ is).0) $
           assigns ! (of_opd ! (load ! (from ! (fld ! refl (stop !))) (look_in ! 50 (sub ! 1 refl (whole !))))) (from ! (stop !)) (init ! 38 refl (tt, record { fits = gt.0 })) $
           -- `name_in`
-          use2 𝓛 (raw ((Names 𝓛 mem run).pre (to-naming item u)) ⊛ packed Held-name) (goes-name item u fits is (item-within text.now line.now at item inside ends)) $ split ! $
+          use2 𝓛 (raw ((Names 𝓛 mem run).pre (to-naming item u)) ⊛ packed HeldName) (goes-name item u fits is (item-within text.now line.now at item inside ends)) $ split ! $
           calls_at ! fm (Names 𝓛 mem run) known-name (to-naming item u) (and_then ! (load ! (from ! (stop !)) (look ! 60 refl)) (and_then ! (load ! (from ! (stop !)) (look ! 58 refl)) (and_then ! (load ! (from ! (stop !)) (look ! 40 refl)) (no_more !)))) (λ v.
           use1 𝓛 (after-name item u v) (id⊢ 𝓤 _) $ await ! tt $ pick ! (λ name. split ! $ move ! (1 ∷ []) $ use1 𝓛 (raw (fact 𝓤 (Called item name))) (name-says 𝓛 mem run κ₀ q₀ text at item u name) $ heard ! (Called item name) (λ called. split ! $ move ! (1 ∷ []) $
           peeks ! (ShrSlice (named 0) κ₀ u8) (Is (ShrSlice (named 0) κ₀ u8)) (shows 𝓛 (ShrSlice (named 0) κ₀ u8)) name (v ∷ []) (λ bytes.
@@ -430,7 +430,7 @@ module _ {M : Type 1} {𝓤 : Ura M} (𝓛 : Logic 𝓤) (mem : Memory → SProp
           assigns ! (addr ! (from ! (fld ! refl (hop ! (look_in ! 51 (sub ! 0 refl (whole !))) (stop !))))) (from ! (stop !)) (init ! 31 refl (tt, tt)) $
           assigns ! (agg ! (and_then ! (load ! (from ! (stop !)) (look ! 31 refl)) (and_then ! (load ! (from ! (fld ! refl (stop !))) (look_in ! 51 (sub ! 1 refl (whole !)))) (no_more !)))) (from ! (stop !)) (init ! 29 refl (tt, (tt, (record { fits = gt.0 }, tt)))) $
           -- `find`
-          use3 𝓛 (later (some (λ (ν : ℕ). some (λ (δ : GName). raw ((Finds 𝓛 mem run).pre (to-finding name v ν δ)) ⊛ packed (Held-find ν))))) (goes-find name v few) $ await ! tt $ pick ! (λ ν. pick ! (λ δ. split ! $
+          use3 𝓛 (later (some (λ (ν : ℕ). some (λ (δ : GName). raw ((Finds 𝓛 mem run).pre (to-finding name v ν δ)) ⊛ packed (HeldFind ν))))) (goes-find name v few) $ await ! tt $ pick ! (λ ν. pick ! (λ δ. split ! $
           calls_at ! fm (Finds 𝓛 mem run) known-find (to-finding name v ν δ) (and_then ! (load ! (from ! (stop !)) (look ! 60 refl)) (and_then ! (load ! (from ! (stop !)) (look ! 28 refl)) (and_then ! (load ! (from ! (fld ! refl (stop !))) (look_in ! 54 (sub ! 1 refl (whole !)))) (and_then ! (load ! (from ! (stop !)) (look ! 36 refl)) (no_more !))))) (λ w.
           use1 𝓛 (after-find name v ν δ w) (id⊢ 𝓤 _) $ await ! tt $ pick ! (λ f. split ! $ move ! (1 ∷ []) $ use1 𝓛 (raw (fact 𝓤 (Looked name f))) (said-find name v ν δ f) $ heard ! (Looked name f) (λ looked. split ! $ move ! (1 ∷ []) $
           facts ! F.the_row (Is F.the_row) (shows 𝓛 F.the_row) f (w ∷ []) (λ fs.

@@ -28,7 +28,7 @@ use Rattle.labels.specs.declared.Label.{Label}
 use Rattle.labels.specs.contracts.Label as T
 use Rattle.asm.specs.declared.Assembled.{Assembled}
 use Rattle.asm.specs.Assemble.{filled}
-use Rattle.asm.specs.Views.{wordCount, labelCount}
+use Rattle.asm.specs.Views.{word_count, label_count}
 use Rattle.asm.specs.contracts.Assembled as R
 use Rattle.asm.proofs.Assembled.TheLaws as R'
 use Rattle.asm.specs.contracts.clear_words as clear-words
@@ -74,11 +74,11 @@ module _ {M : Type 1} {𝓤 : Ura M} (𝓛 : Logic 𝓤) (mem : Memory → SProp
     abbrev pub LabelsLeftSays : SProp 𝓤
     LabelsLeftSays = ensured 𝓛 labels-left.ended (labels-left.clauses 𝓛 mem run) tt (r, tt) tt k
 
-    pub said-words-left : ent 𝓤 WordsLeftSays (fact 𝓤 (k ≡ wordCount r))
-    said-words-left = ex_e 𝓤 _ (λ ws. snd∗ 𝓤 (sem 𝓛 (lasts words_left.ended tt (r, tt) ws)) (fact 𝓤 (k ≡ wordCount r)))
+    pub said-words-left : ent 𝓤 WordsLeftSays (fact 𝓤 (k ≡ word_count r))
+    said-words-left = ex_e 𝓤 _ (λ ws. snd∗ 𝓤 (sem 𝓛 (lasts words_left.ended tt (r, tt) ws)) (fact 𝓤 (k ≡ word_count r)))
 
-    pub said-labels-left : ent 𝓤 LabelsLeftSays (fact 𝓤 (k ≡ labelCount r))
-    said-labels-left = ex_e 𝓤 _ (λ ws. snd∗ 𝓤 (sem 𝓛 (lasts labels-left.ended tt (r, tt) ws)) (fact 𝓤 (k ≡ labelCount r)))
+    pub said-labels-left : ent 𝓤 LabelsLeftSays (fact 𝓤 (k ≡ label_count r))
+    said-labels-left = ex_e 𝓤 _ (λ ws. snd∗ 𝓤 (sem 𝓛 (lasts labels-left.ended tt (r, tt) ws)) (fact 𝓤 (k ≡ label_count r)))
 
   -- ---- a slice at (b, o) under γ is cleared from the k-th on, x being the count's machine value and n the slice's own
   module _ (κ : Lft) (q : Share) (b o n : ℕ) (γ : GName) (k : ℕ) (x : Val) where

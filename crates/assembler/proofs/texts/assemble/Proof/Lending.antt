@@ -32,7 +32,7 @@ use Rattle.labels.specs.contracts.Label as T
 use Rattle.asm.specs.declared.Rules.{Rules}
 use Rattle.asm.specs.declared.Assembled.{Assembled}
 use Rattle.asm.specs.Assemble.{outcome}
-use Rattle.asm.specs.Views.{EndedWith, wordCount, labelCount}
+use Rattle.asm.specs.Views.{EndedWith, word_count, label_count}
 use Rattle.asm.specs.contracts.Rules as U
 use Rattle.asm.proofs.Rules.TheLaws as U'
 use Rattle.assembler.specs.contracts.lines.assemble_lines as assemble-lines
@@ -49,11 +49,11 @@ module _ (b o n : ℕ) where
   abbrev pub slice : {X : Type 0} → GName → List X → MutBor (List X)
   slice δ l = record { ref_ptr = (b, o); ghost_name = δ; now = l }
 
-  abbrev pub Lent-words : ℕ → GName → List ℕ → Fml
-  Lent-words ν δ l = (MutSlice (named 1) (ν ∷ []) u16).own_val (slice δ l) (slice_val (b, o) n ∷ [])
+  abbrev pub LentWords : ℕ → GName → List ℕ → Fml
+  LentWords ν δ l = (MutSlice (named 1) (ν ∷ []) u16).own_val (slice δ l) (slice_val (b, o) n ∷ [])
 
-  abbrev pub Lent-table : ℕ → GName → List Label → Fml
-  Lent-table ν δ l = (MutSlice (named 2) (ν ∷ []) T.the_row).own_val (slice δ l) (slice_val (b, o) n ∷ [])
+  abbrev pub LentTable : ℕ → GName → List Label → Fml
+  LentTable ν δ l = (MutSlice (named 2) (ν ∷ []) T.the_row).own_val (slice δ l) (slice_val (b, o) n ∷ [])
 
 -- what is known of the answer r and the last words and table
 module _ (rules : Rules) (text : Bor (List ℕ)) (ws : List ℕ) (ls : List Label) where
@@ -61,7 +61,7 @@ module _ (rules : Rules) (text : Bor (List ℕ)) (ws : List ℕ) (ls : List Labe
   Ends r zs zl = EndedWith r zs zl (outcome rules.strict text.now (length ws) (length ls))
 
   abbrev pub Counts : Assembled → Type 0
-  Counts r = (wordCount r ≤ length ws) × (labelCount r ≤ length ls)
+  Counts r = (word_count r ≤ length ws) × (label_count r ≤ length ls)
 
   abbrev pub Known : Assembled → List ℕ → List Label → Type 0
   Known r zs zl = (length zs ≡ length ws) × (length zl ≡ length ls) × Ends r zs zl × Counts r
@@ -105,7 +105,7 @@ module _ {M : Type 1} {𝓤 : Ura M} (𝓛 : Logic 𝓤) (mem : Memory → SProp
     -- what the walk has for it
     abbrev pub Ready : List (Item 𝓤)
     Ready =
-        ‵ (Lent-words b o (length ws) ν δ ws) ∷ ‵ (Lent-table b' o' (length ls) ν' δ' ls) ∷ ‵ (Lent 3 w64 α₃ b₃ γ₃) ∷ ‵ (Lent 4 w64 α₄ b₄ γ₄) ∷ ‵ (Lent 5 w16 α₅ b₅ γ₅) ∷ ‵ (Lent 6 w8 α₆ b₆ γ₆)
+        ‵ (LentWords b o (length ws) ν δ ws) ∷ ‵ (LentTable b' o' (length ls) ν' δ' ls) ∷ ‵ (Lent 3 w64 α₃ b₃ γ₃) ∷ ‵ (Lent 4 w64 α₄ b₄ γ₄) ∷ ‵ (Lent 5 w16 α₅ b₅ γ₅) ∷ ‵ (Lent 6 w8 α₆ b₆ γ₆)
         ∷ ‵ (flft (ν ∷ []) full_share) ∷ ‵ (flft (ν' ∷ []) full_share) ∷ ‵ (flft (α₃ ∷ []) full_share) ∷ ‵ (flft (α₄ ∷ []) full_share) ∷ ‵ (flft (α₅ ∷ []) full_share) ∷ ‵ (flft (α₆ ∷ []) full_share)
         ∷ ‵ (flft κ₀ q₀) ∷ ‵ ftrue ∷ ‵ ((U.the_row).own_val rules (m ∷ [])) ∷ ‵ (Text κ₀ text) ∷ []
 

@@ -44,12 +44,12 @@ module _ {M : Type 1} {𝓤 : Ura M} (𝓛 : Logic 𝓤) (mem : Memory → SProp
     abbrev pub to-put : Puts.Ghost
     to-put = ((lfts, (full_share, (full_share, (full_share, tt))), tt, passed, (T'.lowered r ∷ [], (vint w64 i ∷ [], (value usize ps ∷ [], (value usize ls ∷ [], (value u16 ds ∷ [], tt)))))), tt)
 
-    abbrev Given-it : List (Item 𝓤)
-    Given-it = ‵ (flft (ν₀ ∷ []) full_share) ∷ ‵ (Lent usize ps ν₀ δ₀ ts₀) ∷ ‵ (flft (ν₁ ∷ []) full_share) ∷ ‵ (Lent usize ls ν₁ δ₁ ts₁) ∷ ‵ (flft (ν₂ ∷ []) full_share) ∷ ‵ (Lent u16 ds ν₂ δ₂ ts₂) ∷ []
+    abbrev GivenIt : List (Item 𝓤)
+    GivenIt = ‵ (flft (ν₀ ∷ []) full_share) ∷ ‵ (Lent usize ps ν₀ δ₀ ts₀) ∷ ‵ (flft (ν₁ ∷ []) full_share) ∷ ‵ (Lent usize ls ν₁ δ₁ ts₁) ∷ ‵ (flft (ν₂ ∷ []) full_share) ∷ ‵ (Lent u16 ds ν₂ δ₂ ts₂) ∷ []
 
-    pub goes-put : i < 2 ^ 64 → Is T.the_row r (T'.lowered r ∷ []) → ent 𝓤 (⋆ 𝓛 Given-it) (Puts.pre to-put)
+    pub goes-put : i < 2 ^ 64 → Is T.the_row r (T'.lowered r ∷ []) → ent 𝓤 (⋆ 𝓛 GivenIt) (Puts.pre to-put)
     goes-put fits g =
-        qed 𝓛 Given-it ∵ nothing ! $ move ! (5 ∷ 0 ∷ []) $ join ! $ move ! (3 ∷ 0 ∷ []) $ join ! $ move ! (1 ∷ 0 ∷ []) $ join ! $
+        qed 𝓛 GivenIt ∵ nothing ! $ move ! (5 ∷ 0 ∷ []) $ join ! $ move ! (3 ∷ 0 ∷ []) $ join ! $ move ! (1 ∷ 0 ∷ []) $ join ! $
         -- [the tokens; the places; the lengths; the addresses]
         nothing ! $ move ! (4 ∷ 0 ∷ []) $ fjoin ! $ move ! (3 ∷ 0 ∷ []) $ fjoin ! $ move ! (2 ∷ 0 ∷ []) $ fjoin ! $
         owned ! usize (Is usize) (uint_Makes 𝓛 w64) i _ (refl, fits) $ fjoin ! $ owned ! T.the_row (Is T.the_row) (LL.makes T.the_type T'.the_plain 𝓛) r _ g $ fjoin ! $

@@ -31,7 +31,7 @@ use Rattle.labels.specs.declared.Label.{Label}
 use Rattle.labels.specs.contracts.Label as T
 use Rattle.labels.proofs.Label.TheLaws as T'
 use Rattle.labels.specs.declared.Found.{Found}
-use Rattle.table.specs.Table.{foundAt, looksOn}
+use Rattle.table.specs.Table.{found_at, looks_on}
 use Rattle.labels.specs.contracts.Found as F
 use Rattle.labels.proofs.Found.TheLaws as F'
 use Rattle.table.specs.contracts.says.found_at as found_at
@@ -80,8 +80,8 @@ module _ {M : Type 1} {𝓤 : Ura M} (𝓛 : Logic 𝓤) (mem : Memory → SProp
         owned ! usize (Is usize) (uint_Makes 𝓛 w64) n (vint w64 n ∷ []) (refl, gn) $ fjoin ! $
         owned ! usize (Is usize) (uint_Makes 𝓛 w64) i (vint w64 i ∷ []) (refl, gi) $ fjoin ! $ nothing ! $ join ! $ frame ! $ done !
 
-    pub looks-said : (r : Bool) → ent 𝓤 (ensured 𝓛 Looks-on.ended (Looks-on.clauses 𝓛 mem run) tt (i, (n, (k, tt))) tt r) (fact 𝓤 (r ≡ looksOn i n k))
-    looks-said r = ex_e 𝓤 _ (λ ws. snd∗ 𝓤 (sem 𝓛 (lasts Looks-on.ended tt (i, (n, (k, tt))) ws)) (fact 𝓤 (r ≡ looksOn i n k)))
+    pub looks-said : (r : Bool) → ent 𝓤 (ensured 𝓛 Looks-on.ended (Looks-on.clauses 𝓛 mem run) tt (i, (n, (k, tt))) tt r) (fact 𝓤 (r ≡ looks_on i n k))
+    looks-said r = ex_e 𝓤 _ (λ ws. snd∗ 𝓤 (sem 𝓛 (lasts Looks-on.ended tt (i, (n, (k, tt))) ws)) (fact 𝓤 (r ≡ looks_on i n k)))
 
   -- ---- what an entry says, at the text, the entry, its index and the name
   module _ (κ κ' : Lft) (q q' : Share) (text name : Bor (List ℕ)) where
@@ -103,5 +103,5 @@ module _ {M : Type 1} {𝓤 : Ura M} (𝓛 : Logic 𝓤) (mem : Memory → SProp
           (qed 𝓛 ((‵ (flft κ q) ⊛ ‵ (flft κ' q') ⊛ ‵ ftrue) ∷ ‵ (owns (ShrSlice (named 0) κ u8 ∷ usize ∷ T.the_row ∷ ShrSlice (named 1) κ' u8 ∷ []) to-found.0.3 to-found.0.4) ∷ []) ∵ join ! $ frame ! $ done !) $
           frame ! $ move ! (1 ∷ 0 ∷ []) $ done !
 
-      pub found-said : (r : Found) → ent 𝓤 (ensured 𝓛 found_at.ended (found_at.clauses 𝓛 mem run) (κ, (κ', tt)) (text, (i, (l, (name, tt)))) tt r) (fact 𝓤 (r ≡ foundAt text.now name.now i l))
-      found-said r = ex_e 𝓤 _ (λ ws. snd∗ 𝓤 (sem 𝓛 (lasts found_at.ended (κ, (κ', tt)) (text, (i, (l, (name, tt)))) ws)) (fact 𝓤 (r ≡ foundAt text.now name.now i l)))
+      pub found-said : (r : Found) → ent 𝓤 (ensured 𝓛 found_at.ended (found_at.clauses 𝓛 mem run) (κ, (κ', tt)) (text, (i, (l, (name, tt)))) tt r) (fact 𝓤 (r ≡ found_at text.now name.now i l))
+      found-said r = ex_e 𝓤 _ (λ ws. snd∗ 𝓤 (sem 𝓛 (lasts found_at.ended (κ, (κ', tt)) (text, (i, (l, (name, tt)))) ws)) (fact 𝓤 (r ≡ found_at text.now name.now i l)))

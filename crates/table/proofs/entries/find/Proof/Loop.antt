@@ -44,8 +44,8 @@ use Rattle.labels.specs.contracts.Label as T
 use Rattle.labels.proofs.Label.TheLaws as T'
 use Rattle.labels.specs.declared.Found.{Found}
 use Rattle.labels.specs.declared.Found.TheVariants.{Nothing}
-use Rattle.labels.specs.Labels.{no_label, findFrom, find}
-use Rattle.table.specs.Table.{foundAt, looksOn}
+use Rattle.labels.specs.Labels.{no_label, find_from, find}
+use Rattle.table.specs.Table.{found_at, looks_on}
 use Rattle.labels.specs.contracts.Found as F
 use Rattle.labels.proofs.Found.TheLaws as F'
 use Rattle.table.proofs.TableLaws.{first_of, looks-within, within-table, begun, turned, ended}
@@ -68,14 +68,14 @@ vals = LL.vals T.the_type T'.the_laws
 abbrev word : Ty
 word = ty_int w64
 
-abbrev textTy : Ty
-textTy = slice_ty (ty_ref (named 0) imm (ty_int w8))
+abbrev text_ty : Ty
+text_ty = slice_ty (ty_ref (named 0) imm (ty_int w8))
 
-abbrev tableTy : Ty
-tableTy = slice_ty (ty_ref (named 1) imm (pointee (T.the_row).written))
+abbrev table_ty : Ty
+table_ty = slice_ty (ty_ref (named 1) imm (pointee (T.the_row).written))
 
-abbrev nameTy : Ty
-nameTy = slice_ty (ty_ref (named 2) imm (ty_int w8))
+abbrev name_ty : Ty
+name_ty = slice_ty (ty_ref (named 2) imm (ty_int w8))
 
 -- what is known at the head of the loop, where t entries are left: the index, what is found so far and its machine value
 record State (text name : List ℕ) (ls : List Label) (t : ℕ) : Type 0 where
@@ -83,7 +83,7 @@ record State (text name : List ℕ) (ls : List Label) (t : ℕ) : Type 0 where
   pub k : Found
   pub u : Val
   pub left : i + t ≡ length ls
-  pub found : first_of k (findFrom text name i (dropped i ls)) ≡ find text name ls
+  pub found : first_of k (find_from text name i (dropped i ls)) ≡ find text name ls
   pub is : Is F.the_row k (u ∷ [])
 
 -- what the function has of its parameters all along: the tokens, and what the slices own
@@ -116,13 +116,13 @@ module _ {M : Type 1} {𝓤 : Ura M} (𝓛 : Logic 𝓤) (mem : Memory → SProp
   Owned = Kept 𝓤 κ κ' κ'' q q' q'' text table name
 
   abbrev En : Env 𝓤 H
-  En = (F'.mir, l₀) ∷ (textTy, l₁) ∷ (tableTy, l₂) ∷ (word, l₃) ∷ (nameTy, l₄) ∷ (word, l₅) ∷ (F'.mir, l₆) ∷ (word, l₇) ∷ (word, l₈) ∷ (ty_bool, l₉) ∷ (word, l₁₀) ∷ (ty_ptr, l₁₁) ∷ (T'.mir, l₁₂) ∷ []
+  En = (F'.mir, l₀) ∷ (text_ty, l₁) ∷ (table_ty, l₂) ∷ (word, l₃) ∷ (name_ty, l₄) ∷ (word, l₅) ∷ (F'.mir, l₆) ∷ (word, l₇) ∷ (word, l₈) ∷ (ty_bool, l₉) ∷ (word, l₁₀) ∷ (ty_ptr, l₁₁) ∷ (T'.mir, l₁₂) ∷ []
 
   -- what no turn touches
   abbrev Frame : List (Item 𝓤)
-  Frame = ‵ (fat full_share textTy l₁ 0 (slice_val text.ref_ptr (length text.now))) ∷ ‵ (fat full_share tableTy l₂ 0 (slice_val table.ref_ptr (length table.now))) ∷ ‵ (fat full_share nameTy l₄ 0 (slice_val name.ref_ptr (length name.now))) ∷ ‵ (froom F'.mir l₀ 0)
+  Frame = ‵ (fat full_share text_ty l₁ 0 (slice_val text.ref_ptr (length text.now))) ∷ ‵ (fat full_share table_ty l₂ 0 (slice_val table.ref_ptr (length table.now))) ∷ ‵ (fat full_share name_ty l₄ 0 (slice_val name.ref_ptr (length name.now))) ∷ ‵ (froom F'.mir l₀ 0)
       ∷ ‵ (flft κ q) ∷ ‵ (flft κ' q') ∷ ‵ (flft κ'' q'') ∷ ‵ (OwnBytes κ text) ∷ ‵ (OwnLabels κ' table) ∷ ‵ (OwnBytes κ'' name)
-      ∷ ‵ (fdies F'.mir l₀) ∷ ‵ (fdies textTy l₁) ∷ ‵ (fdies tableTy l₂) ∷ ‵ (fdies word l₃) ∷ ‵ (fdies nameTy l₄) ∷ ‵ (fdies word l₅) ∷ ‵ (fdies F'.mir l₆) ∷ ‵ (fdies word l₇) ∷ ‵ (fdies word l₈) ∷ ‵ (fdies ty_bool l₉) ∷ ‵ (fdies word l₁₀) ∷ ‵ (fdies ty_ptr l₁₁) ∷ ‵ (fdies T'.mir l₁₂)
+      ∷ ‵ (fdies F'.mir l₀) ∷ ‵ (fdies text_ty l₁) ∷ ‵ (fdies table_ty l₂) ∷ ‵ (fdies word l₃) ∷ ‵ (fdies name_ty l₄) ∷ ‵ (fdies word l₅) ∷ ‵ (fdies F'.mir l₆) ∷ ‵ (fdies word l₇) ∷ ‵ (fdies word l₈) ∷ ‵ (fdies ty_bool l₉) ∷ ‵ (fdies word l₁₀) ∷ ‵ (fdies ty_ptr l₁₁) ∷ ‵ (fdies T'.mir l₁₂)
       ∷ ‵ (fat full_share word l₅ 0 (vint w64 n)) ∷ ‵ (fat full_share word l₈ 0 (vint w64 (length table.now))) ∷ ‵ (fat full_share word l₃ 0 (vint w64 count)) ∷ []
 
   -- at the head of the loop: k, whose machine value is u, and i
@@ -135,19 +135,19 @@ module _ {M : Type 1} {𝓤 : Ura M} (𝓛 : Logic 𝓤) (mem : Memory → SProp
 
   module _ (i : ℕ) (k : Found) (u : Val) (gi : i < 2 ^ 64) (is : Is F.the_row k (u ∷ [])) where
     -- the loop's test, as one step of a walk, where its outcome is known: `looks_on` is asked
-    tests : Go {0} → (t : Bool) → looksOn i n k ≡ t → {rest : Body} {o : Post 𝓤 H} → Step (Go {0}) 𝓛 (Tested i u t) (runs C Λ En rest o) (At i u)
+    tests : Go {0} → (t : Bool) → looks_on i n k ≡ t → {rest : Body} {o : Post 𝓤 H} → Step (Go {0}) 𝓛 (Tested i u t) (runs C Λ En rest o) (At i u)
         (runs C Λ En (seq (call #looks-on (copy (place 7 []) ∷ copy (place 5 []) ∷ copy (place 6 []) ∷ []) (place 9 [])) rest) o)
     tests g t e = step (λ s.
         use0 𝓛 (raw ((LooksOn 𝓛 mem run).pre (to-looks 𝓛 mem run i n k u))) (looks-asked 𝓛 mem run i n k u gi n-fits is) $
         calls_at ! (fm_of 𝓤 H 𝓛.laws 𝓣) (LooksOn 𝓛 mem run) met-looks (to-looks 𝓛 mem run i n k u) (and_then ! (load ! (from ! (stop !)) (look ! 2 refl)) (and_then ! (load ! (from ! (stop !)) (look ! 30 refl)) (and_then ! (load ! (from ! (stop !)) (look ! 1 refl)) (no_more !)))) (λ v.
         use1 𝓛 (later (some (λ (r : Bool). (‵ ftrue ⊛ ‵ (bool.own_val r (v ∷ []))) ⊛ raw (ensured 𝓛 Looks-on.ended (Looks-on.clauses 𝓛 mem run) tt (i, (n, (k, tt))) tt r)))) (id⊢ 𝓤 _) $ await ! tt $ pick ! (λ r.
-        split ! $ move ! (1 ∷ []) $ use1 𝓛 (raw (fact 𝓤 (r ≡ looksOn i n k))) (looks-said 𝓛 mem run i n k u r) $ heard ! (r ≡ looksOn i n k) (λ f. split ! $ drop ! $
+        split ! $ move ! (1 ∷ []) $ use1 𝓛 (raw (fact 𝓤 (r ≡ looks_on i n k))) (looks-said 𝓛 mem run i n k u r) $ heard ! (r ≡ looks_on i n k) (λ f. split ! $ drop ! $
         facts ! bool (Is bool) (shows 𝓛 bool) r (v ∷ []) (λ b.
         land ! (from ! (stop !)) (init ! 2 refl ((bool_Lawful 𝓛).typed r _ b).0) $
         rewrite ! 2 (λ (w : Val). ‵ (fat full_share ty_bool l₉ 0 w)) (ap only b ∙ ap vbool (f ∙ e)) refl $ s)))))
 
     -- a turn that reads entry i
-    more : (X : SProp 𝓤) (Q : Out → SProp 𝓤) → looksOn i n k ≡ true → ((r : Found) (v : Val) → r ≡ foundAt text.now name.now i (get_or table.now i no_label) → Is F.the_row r (v ∷ []) → ent 𝓤 (⋆ 𝓛 (At (i + 1) v)) X) → ent 𝓤 (⋆ 𝓛 (At i u)) (Wp 𝓤 H C Λ En mirs.turn-1 (after_turn 𝓤 H X Q))
+    more : (X : SProp 𝓤) (Q : Out → SProp 𝓤) → looks_on i n k ≡ true → ((r : Found) (v : Val) → r ≡ found_at text.now name.now i (get_or table.now i no_label) → Is F.the_row r (v ∷ []) → ent 𝓤 (⋆ 𝓛 (At (i + 1) v)) X) → ent 𝓤 (⋆ 𝓛 (At i u)) (Wp 𝓤 H C Λ En mirs.turn-1 (after_turn 𝓤 H X Q))
     unfolding after_turn
     more X Q e k' =
         let h : i < n = looks-within i n k e in
@@ -170,8 +170,8 @@ module _ {M : Type 1} {𝓤 : Ura M} (𝓛 : Logic 𝓤) (mem : Memory → SProp
         use1 𝓛 (raw ((FoundAt 𝓛 mem run).pre (to-found 𝓛 mem run κ κ'' q q'' text name i (get_or table.now i no_label))) ⊛ ‵ (OwnBytes κ text) ⊛ ‵ (OwnBytes κ'' name)) (found-asked 𝓛 mem run κ κ'' q q'' text name i (get_or table.now i no_label) gi g) $ split3 ! $
         calls_at ! (fm_of 𝓤 H 𝓛.laws 𝓣) (FoundAt 𝓛 mem run) met-found (to-found 𝓛 mem run κ κ'' q q'' text name i (get_or table.now i no_label)) (and_then ! (load ! (from ! (stop !)) (look ! 11 refl)) (and_then ! (load ! (from ! (stop !)) (look ! 6 refl)) (and_then ! (load ! (from ! (stop !)) (look ! 10 refl)) (and_then ! (load ! (from ! (stop !)) (look ! 13 refl)) (no_more !))))) (λ v.
         use1 𝓛 (later (some (λ (r : Found). ((‵ (flft κ q) ⊛ ‵ (flft κ'' q'') ⊛ ‵ ftrue) ⊛ ‵ ((F.the_row).own_val r (v ∷ []))) ⊛ raw (ensured 𝓛 found_at.ended (found_at.clauses 𝓛 mem run) (κ, (κ'', tt)) (text, (i, (get_or table.now i no_label, (name, tt)))) tt r)))) (id⊢ 𝓤 _) $ await ! tt $ pick ! (λ r.
-        split ! $ move ! (1 ∷ []) $ use1 𝓛 (raw (fact 𝓤 (r ≡ foundAt text.now name.now i (get_or table.now i no_label)))) (found-said 𝓛 mem run κ κ'' q q'' text name i (get_or table.now i no_label) r) $
-        heard ! (r ≡ foundAt text.now name.now i (get_or table.now i no_label)) (λ f. split ! $ move ! (1 ∷ []) $ facts ! F.the_row (Is F.the_row) (shows 𝓛 F.the_row) r (v ∷ []) (λ b.
+        split ! $ move ! (1 ∷ []) $ use1 𝓛 (raw (fact 𝓤 (r ≡ found_at text.now name.now i (get_or table.now i no_label)))) (found-said 𝓛 mem run κ κ'' q q'' text name i (get_or table.now i no_label) r) $
+        heard ! (r ≡ found_at text.now name.now i (get_or table.now i no_label)) (λ f. split ! $ move ! (1 ∷ []) $ facts ! F.the_row (Is F.the_row) (shows 𝓛 F.the_row) r (v ∷ []) (λ b.
         -- [two tokens; what text and name own; table's token; what table owns; _6; _7; _9; _10; _11; _12; _1; _2; _4; _0; …]
         land ! (from ! (stop !)) (store ! 5 refl ((EL.lawful F.the_type F'.the_laws 𝓛 tt).typed r _ b).0) $
         assigns_last ! (bin ! (load ! (from ! (stop !)) (look ! 6 refl)) (lit ! tt) (record { fits = next })) (from ! (stop !)) (store ! 6 refl (tt, record { fits = next })) $
@@ -179,7 +179,7 @@ module _ {M : Type 1} {𝓤 : Ura M} (𝓛 : Logic 𝓤) (mem : Memory → SProp
         keep ! (7 ∷ 8 ∷ 9 ∷ 10 ∷ 11 ∷ 12 ∷ 13 ∷ 14 ∷ 15 ∷ 16 ∷ 0 ∷ 5 ∷ 1 ∷ 3 ∷ 6 ∷ 4 ∷ 17 ∷ 18 ∷ 19 ∷ 20 ∷ 21 ∷ 22 ∷ 23 ∷ 24 ∷ 25 ∷ 26 ∷ 27 ∷ 28 ∷ 29 ∷ 30 ∷ 31 ∷ 32 ∷ []) $ by ! (k' r v f b)))))))
 
     -- the turn that leaves the loop, and the rest of the body
-    ends : (X : SProp 𝓤) (Kf : Val → SProp 𝓤) → looksOn i n k ≡ false
+    ends : (X : SProp 𝓤) (Kf : Val → SProp 𝓤) → looks_on i n k ≡ false
         → ent 𝓤 (⋆ 𝓛 Owned) (Kf u)
         → ent 𝓤 (⋆ 𝓛 (At i u)) (Wp 𝓤 H C Λ En mirs.turn-1 (after_turn 𝓤 H X (after_block 𝓤 H (after_seq 𝓤 H (Wp 𝓤 H C Λ En mirs.t-6 (at_return 𝓤 H En Kf)) (at_return 𝓤 H En Kf)))))
     unfolding after_turn
@@ -195,29 +195,29 @@ module _ {M : Type 1} {𝓤 : Ura M} (𝓛 : Logic 𝓤) (mem : Memory → SProp
   abbrev Entered : List (Item 𝓤)
   Entered = ‵ (froom T'.mir l₁₂ 0) ∷ ‵ (fdies T'.mir l₁₂) ∷ ‵ (froom ty_ptr l₁₁ 0) ∷ ‵ (fdies ty_ptr l₁₁) ∷ ‵ (froom word l₁₀ 0) ∷ ‵ (fdies word l₁₀) ∷ ‵ (froom ty_bool l₉ 0) ∷ ‵ (fdies ty_bool l₉)
       ∷ ‵ (froom word l₈ 0) ∷ ‵ (fdies word l₈) ∷ ‵ (froom word l₇ 0) ∷ ‵ (fdies word l₇) ∷ ‵ (froom F'.mir l₆ 0) ∷ ‵ (fdies F'.mir l₆) ∷ ‵ (froom word l₅ 0) ∷ ‵ (fdies word l₅)
-      ∷ ‵ (fat full_share nameTy l₄ 0 (slice_val name.ref_ptr (length name.now))) ∷ ‵ (fdies nameTy l₄) ∷ ‵ (fat full_share word l₃ 0 (vint w64 count)) ∷ ‵ (fdies word l₃)
-      ∷ ‵ (fat full_share tableTy l₂ 0 (slice_val table.ref_ptr (length table.now))) ∷ ‵ (fdies tableTy l₂) ∷ ‵ (fat full_share textTy l₁ 0 (slice_val text.ref_ptr (length text.now))) ∷ ‵ (fdies textTy l₁) ∷ ‵ (froom F'.mir l₀ 0) ∷ ‵ (fdies F'.mir l₀) ∷ Owned
+      ∷ ‵ (fat full_share name_ty l₄ 0 (slice_val name.ref_ptr (length name.now))) ∷ ‵ (fdies name_ty l₄) ∷ ‵ (fat full_share word l₃ 0 (vint w64 count)) ∷ ‵ (fdies word l₃)
+      ∷ ‵ (fat full_share table_ty l₂ 0 (slice_val table.ref_ptr (length table.now))) ∷ ‵ (fdies table_ty l₂) ∷ ‵ (fat full_share text_ty l₁ 0 (slice_val text.ref_ptr (length text.now))) ∷ ‵ (fdies text_ty l₁) ∷ ‵ (froom F'.mir l₀ 0) ∷ ‵ (fdies F'.mir l₀) ∷ Owned
 
   -- ---- the loop, where what is had after it gives Kf of what is found
   module _ (Kf : Val → SProp 𝓤) (exits : (k : Found) (u : Val) → k ≡ find text.now name.now ls → Is F.the_row k (u ∷ []) → ent 𝓤 (⋆ 𝓛 Owned) (Kf u)) where
     abbrev Left : Out → SProp 𝓤
     Left = after_block 𝓤 H (after_seq 𝓤 H (Wp 𝓤 H C Λ En mirs.t-6 (at_return 𝓤 H En Kf)) (at_return 𝓤 H En Kf))
 
-    abbrev State-at : ℕ → Type 0
-    State-at t = State text.now name.now ls t
+    abbrev StateAt : ℕ → Type 0
+    StateAt t = State text.now name.now ls t
 
     abbrev Inv : ℕ → SProp 𝓤
-    Inv t = ex 𝓤 (λ (s : State-at t). ⋆ 𝓛 (At s.i s.u))
+    Inv t = ex 𝓤 (λ (s : StateAt t). ⋆ 𝓛 (At s.i s.u))
 
     abbrev Below : ℕ → SProp 𝓤
     Below t = ex 𝓤 (λ (t' : ℕ). guard 𝓤 (t' < t) (Inv t'))
 
-    below : (t t' : ℕ) → t' < t → (s : State-at t') → ent 𝓤 (⋆ 𝓛 (At s.i s.u)) (Below t)
+    below : (t t' : ℕ) → t' < t → (s : StateAt t') → ent 𝓤 (⋆ 𝓛 (At s.i s.u)) (Below t)
     below t t' less s =
-        via 𝓤 (Inv t') (ex_i 𝓤 (λ (s' : State-at t'). ⋆ 𝓛 (At s'.i s'.u)) s)
+        via 𝓤 (Inv t') (ex_i 𝓤 (λ (s' : StateAt t'). ⋆ 𝓛 (At s'.i s'.u)) s)
         (via 𝓤 (guard 𝓤 (t' < t) (Inv t')) (guard_i 𝓤 (t' < t) (Inv t') less) (ex_i 𝓤 (λ (w : ℕ). guard 𝓤 (w < t) (Inv w)) t'))
 
-    turn_at : (t : ℕ) (s : State-at t) (b : Bool) → looksOn s.i n s.k ≡ b → ent 𝓤 (⋆ 𝓛 (At s.i s.u)) (Wp 𝓤 H C Λ En mirs.turn-1 (after_turn 𝓤 H (Below t) Left))
+    turn_at : (t : ℕ) (s : StateAt t) (b : Bool) → looks_on s.i n s.k ≡ b → ent 𝓤 (⋆ 𝓛 (At s.i s.u)) (Wp 𝓤 H C Λ En mirs.turn-1 (after_turn 𝓤 H (Below t) Left))
     turn_at t s true e =
         let l : s.i < n = looks-within s.i n s.k e in
         let less : t - 1 < t = omega (arith, l, s.left) in
@@ -228,10 +228,10 @@ module _ {M : Type 1} {𝓤 : Ura M} (𝓛 : Logic 𝓤) (mem : Memory → SProp
         ends s.i s.k s.u (omega (arith, s.left, n-fits)) s.is (Below t) Kf e (exits s.k s.u (ended text.now name.now ls s.i s.k e s.found) s.is)
 
     turns : (t : ℕ) → ent 𝓤 (Inv t) (Wp 𝓤 H C Λ En mirs.turn-1 (after_turn 𝓤 H (Below t) Left))
-    turns t = ex_e 𝓤 (λ (s : State-at t). ⋆ 𝓛 (At s.i s.u)) (λ s. turn_at t s (looksOn s.i n s.k) refl)
+    turns t = ex_e 𝓤 (λ (s : StateAt t). ⋆ 𝓛 (At s.i s.u)) (λ s. turn_at t s (looks_on s.i n s.k) refl)
 
-    loops : (t : ℕ) (s : State-at t) → ent 𝓤 (⋆ 𝓛 (At s.i s.u)) (Wp 𝓤 H C Λ En (loop mirs.turn-1) Left)
-    loops t s = via 𝓤 (Inv t) (ex_i 𝓤 (λ (s' : State-at t). ⋆ 𝓛 (At s'.i s'.u)) s) (loop_rule 𝓤 H 𝓛.laws 𝓣 ◌<◌ lt-wf_rel.wf En mirs.turn-1 Left Inv turns t)
+    loops : (t : ℕ) (s : StateAt t) → ent 𝓤 (⋆ 𝓛 (At s.i s.u)) (Wp 𝓤 H C Λ En (loop mirs.turn-1) Left)
+    loops t s = via 𝓤 (Inv t) (ex_i 𝓤 (λ (s' : StateAt t). ⋆ 𝓛 (At s'.i s'.u)) s) (loop_rule 𝓤 H 𝓛.laws 𝓣 ◌<◌ lt-wf_rel.wf En mirs.turn-1 Left Inv turns t)
 
     -- the body, from where the arguments are stored: `least` says how many entries there are to look at, nothing is found, and entry 0 is the first
     pub starts : Sq 𝓛 Entered (runs C Λ En mirs.t-1 (at_ret En Kf))
