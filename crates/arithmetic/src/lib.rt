@@ -1,4 +1,6 @@
 // Numbers of sixteen bits: the arithmetic with its refusals, comparisons, shifts, and the bits of FLAGS.
+#![tactic(auto)]
+
 mod compares;
 mod flags;
 mod operators;
@@ -15,7 +17,7 @@ pub use shifts::moved;
 pub use totals::{difference, power, product, quotient, remainder, sum};
 
 // What an operation comes to: a number of sixteen bits, or the refusal.
-#[derive(Drop)]
+#[derive(Clone, Copy)]
 pub enum Total {
     Is(u16),
     Refused(Refusal),

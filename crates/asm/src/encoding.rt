@@ -6,7 +6,7 @@ use crate::Rules;
 use base::Refusal;
 use instruction::{Instruction, decodable, encode, fits};
 
-#[derive(Drop)]
+#[derive(Clone, Copy)]
 pub enum Word {
     Is(u16),
     Refused(Refusal),

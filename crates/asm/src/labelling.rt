@@ -16,7 +16,7 @@ use base::{InstructionIndex, Refusal, byte_address};
 use labels::{Found, Label};
 
 // How many labels there are now, or the refusal.
-#[derive(Drop)]
+#[derive(Clone, Copy)]
 pub enum Defined {
     Count(usize),
     Refused(Refusal),

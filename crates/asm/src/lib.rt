@@ -1,4 +1,6 @@
 // A line of assembly and what it does: to the words, to the labels, and to the references that wait for one. Plain or strict.
+#![tactic(auto)]
+
 mod clearing;
 mod encoding;
 mod labelling;
@@ -19,13 +21,13 @@ pub use turns::{do_line, name_in};
 
 // The rules that a text is held to. Plain masks a field that exceeds its width, and lets a CJP to a register through, whose word
 // decodes to JMP. Strict refuses an instruction exactly if a field exceeds its width (30), or if it is a CJP to a register (32).
-#[derive(Drop)]
+#[derive(Clone, Copy)]
 pub struct Rules {
     pub strict: bool,
 }
 
 // What assembling a text answers.
-#[derive(Drop)]
+#[derive(Clone, Copy)]
 pub enum Assembled {
     // how many words, labels and references still open
     Accepted(usize, usize, usize),
@@ -34,7 +36,7 @@ pub enum Assembled {
 }
 
 // Places are counted from the start of the line.
-#[derive(Drop)]
+#[derive(Clone, Copy)]
 pub enum Line {
     // empty, or a comment
     Skip,
@@ -47,7 +49,7 @@ pub enum Line {
 }
 
 // How many words, labels and open references there are.
-#[derive(Drop)]
+#[derive(Clone, Copy)]
 pub struct Counts {
     pub words: InstructionIndex,
     pub labels: usize,
@@ -55,14 +57,14 @@ pub struct Counts {
 }
 
 // How many there are after a line, or the refusal.
-#[derive(Drop)]
+#[derive(Clone, Copy)]
 pub enum Turn {
     Go(Counts),
     Refused(Refusal),
 }
 
 // An entry of the label table: where it goes, and the label.
-#[derive(Drop)]
+#[derive(Clone, Copy)]
 pub struct Entry {
     pub slot: usize,
     pub label: Label,

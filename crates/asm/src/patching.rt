@@ -14,7 +14,7 @@ use labels::{Open, names, open_at, put_open};
 use parser::resolved;
 
 // How many references are open, or the refusal.
-#[derive(Drop)]
+#[derive(Clone, Copy)]
 pub enum Left {
     Count(usize),
     Refused(Refusal),

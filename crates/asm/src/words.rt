@@ -9,7 +9,7 @@ use base::{InstructionIndex, Refusal};
 use instruction::Instruction;
 
 // The number of the next instruction, or the refusal.
-#[derive(Drop)]
+#[derive(Clone, Copy)]
 pub enum Added {
     Next(InstructionIndex),
     Refused(Refusal),

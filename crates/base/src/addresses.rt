@@ -3,7 +3,7 @@ ghost use Rattle.std.specs.Prelude.{◌≡◌, ◌+◌};
 ghost use Rattle.base.specs.Addresses.{reached, second_address, base_plus_shift, raised_pc};
 
 // What such a sum comes to: an address, or past the last one.
-#[derive(Drop)]
+#[derive(Clone, Copy)]
 pub enum Reached {
     At(u16),
     Past,

@@ -3,11 +3,11 @@ ghost use Rattle.std.specs.Prelude.{◌≡◌};
 ghost use Rattle.base.specs.Words.{doubled};
 
 // The number of an instruction in its program, from 0.
-#[derive(Drop)]
+#[derive(Clone, Copy)]
 pub struct InstructionIndex(pub u16);
 
 // The address of a byte; also the one just past the last instruction, which may be 65,536 or more.
-#[derive(Drop)]
+#[derive(Clone, Copy)]
 pub struct ByteAddress(pub u32);
 
 // Each instruction is one word, two bytes.

@@ -1,5 +1,7 @@
 // What every part shares: the refusals of document 01 with their numbers, the two bytes of a word,
 // the sums of an address, and the two ways of counting along a program.
+#![tactic(auto)]
+
 mod addresses;
 mod counts;
 mod halves;

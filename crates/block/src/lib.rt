@@ -1,4 +1,6 @@
 // The block of 87 bytes that a C host holds a machine's state in: which bytes are one, the state of a block, the block of a state.
+#![tactic(auto)]
+
 mod packing;
 mod unpacking;
 

@@ -1,5 +1,7 @@
 // Fields of a sixteen-bit word, by position and width. They are taken and placed by quotients, remainders and
 // products with powers of 2, so that the code says what the definitions say.
+#![tactic(auto)]
+
 ghost use Rattle.std.specs.Prelude.{◌≡◌, ◌+◌, ◌<◌, ◌≤◌, ◌^◌};
 ghost use Rattle.fields.specs.Fields.{field_of, place_of};
 

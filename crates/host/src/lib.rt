@@ -1,5 +1,7 @@
 // What the host does to a whole state between its steps: set a register, protect, register a device, load, read out.
 // Each asks first whether the state is valid as a whole, and calls the crate below it.
+#![tactic(auto)]
+
 mod changes;
 mod entries;
 mod loads;

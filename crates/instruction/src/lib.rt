@@ -1,4 +1,6 @@
 // The instructions: what a word says, and the word of an instruction.
+#![tactic(auto)]
+
 mod codes;
 mod decoder;
 mod editions;
@@ -14,7 +16,7 @@ pub use encoder::encode;
 pub use forms::{decodable, sayable};
 pub use widths::fits;
 
-#[derive(Drop)]
+#[derive(Clone, Copy)]
 pub enum Register {
     A,
     B,
@@ -29,14 +31,14 @@ pub enum Register {
 }
 
 // Where an instruction takes its number from.
-#[derive(Drop)]
+#[derive(Clone, Copy)]
 pub enum Operand {
     Reg(Register),
     Imm(u16),
 }
 
 // The four operators of Arith.
-#[derive(Drop)]
+#[derive(Clone, Copy)]
 pub enum ArithOp {
     Add,
     Sub,
@@ -45,7 +47,7 @@ pub enum ArithOp {
 }
 
 // The seven of ArithRegReg.
-#[derive(Drop)]
+#[derive(Clone, Copy)]
 pub enum ArithmeticOp {
     Add,
     Sub,
@@ -56,7 +58,7 @@ pub enum ArithmeticOp {
     Sqrt,
 }
 
-#[derive(Drop)]
+#[derive(Clone, Copy)]
 pub enum CompareOp {
     Eq,
     NotEq,
@@ -66,7 +68,7 @@ pub enum CompareOp {
     GreaterEq,
 }
 
-#[derive(Drop)]
+#[derive(Clone, Copy)]
 pub enum Instruction {
     Noop,
     // destination, source
@@ -92,14 +94,14 @@ pub enum Instruction {
 
 // Document 02 names a second edition of the instruction set. Machine and listing go by the first; source text for words goes by the
 // second, because a line can say what the first edition's decoder does not: CJP to a register.
-#[derive(Drop)]
+#[derive(Clone, Copy)]
 pub enum Edition {
     First,
     Second,
 }
 
 // What decoding a word answers.
-#[derive(Drop)]
+#[derive(Clone, Copy)]
 pub enum Decoded {
     Ok(Instruction),
     Refused(Refusal),

@@ -1,4 +1,6 @@
 // The whole state, its journal, and what goes by it: the recording step, run, step-back, forget.
+#![tactic(auto)]
+
 mod backs;
 mod runs;
 mod states;
@@ -11,7 +13,7 @@ pub use runs::{run, step};
 pub use states::{new, valid};
 
 // A machine, and how its journal stands: the slot that the next record goes to, and how many records are held.
-#[derive(Drop)]
+#[derive(Clone, Copy)]
 pub struct State {
     pub machine: Machine,
     pub next: u16,
@@ -19,7 +21,7 @@ pub struct State {
 }
 
 // Which of a record's two places its kind uses.
-#[derive(Drop)]
+#[derive(Clone, Copy)]
 pub enum Used {
     Neither,
     First,
@@ -28,14 +30,14 @@ pub enum Used {
 }
 
 // A step's answer and the state after it: as it was where nothing was accepted.
-#[derive(Drop)]
+#[derive(Clone, Copy)]
 pub struct Stepped {
     pub answer: StepAnswer,
     pub state: State,
 }
 
 // A run's answer, which is its last step's, the steps that were accepted, and the state after them.
-#[derive(Drop)]
+#[derive(Clone, Copy)]
 pub struct Ran {
     pub answer: StepAnswer,
     pub count: u32,
@@ -43,7 +45,7 @@ pub struct Ran {
 }
 
 // An entry's verdict and the state after it: as it was where the verdict is a refusal.
-#[derive(Drop)]
+#[derive(Clone, Copy)]
 pub struct Changed {
     pub answer: Answer,
     pub state: State,

@@ -18,14 +18,14 @@ use records::{Old, Record};
 
 // How the journal stands: the slot that the next record goes to, and how many are held. Beside the registers this is all that changes from
 // step to step: tables and mode stay, and a run does not carry them along.
-#[derive(Drop)]
+#[derive(Clone, Copy)]
 pub struct Ring {
     pub next: u16,
     pub held: u16,
 }
 
 // A step's answer, and what goes on from it: one register gets a value, and then PC its own.
-#[derive(Drop)]
+#[derive(Clone, Copy)]
 pub struct Turned {
     pub answer: StepAnswer,
     pub register: Register,

@@ -1,5 +1,7 @@
 // listing: reads a text from standard input and writes its listing to standard output. It only moves bytes in and out; `lister`
 // makes the listing.
+#![tactic(auto)]
+
 use libc::{STDIN_FILENO, STDOUT_FILENO};
 use lister::list;
 use printer::Printed;

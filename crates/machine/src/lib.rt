@@ -1,5 +1,7 @@
 // The machine: registers and mode by value beside the map, lent memory and device bytes.
 // A step is planned first, which only reads, and committed afterwards: so a refusal has changed nothing.
+#![tactic(auto)]
+
 mod actions;
 mod flow;
 mod operands;
@@ -17,18 +19,18 @@ pub use states::{new, set_register, valid};
 pub use steps::{commit, move_of, plan_of, plan_step, step, store};
 
 // A, B, C, M, SP, PC, BP, FLAGS.
-#[derive(Drop)]
+#[derive(Clone, Copy)]
 pub struct Registers {
     pub value: [u16; 8],
 }
 
 // What kind of machine it is.
-#[derive(Drop)]
+#[derive(Clone, Copy)]
 pub struct Mode {
     pub debug: bool,
 }
 
-#[derive(Drop)]
+#[derive(Clone, Copy)]
 pub struct Machine {
     pub registers: Registers,
     pub mode: Mode,
@@ -36,7 +38,7 @@ pub struct Machine {
 }
 
 // What a step answers. Continue and Debug are accepted steps.
-#[derive(Drop)]
+#[derive(Clone, Copy)]
 pub enum StepAnswer {
     Continue,
     Debug,
@@ -45,7 +47,7 @@ pub enum StepAnswer {
 }
 
 // A step that is decided and not yet made: its answer, the registers after it, the bytes to be stored.
-#[derive(Drop)]
+#[derive(Clone, Copy)]
 pub struct Plan {
     pub answer: StepAnswer,
     pub registers: Registers,
@@ -53,7 +55,7 @@ pub struct Plan {
 }
 
 // The same, with what changes of the registers: one gets a value, and then PC its own.
-#[derive(Drop)]
+#[derive(Clone, Copy)]
 pub struct Move {
     pub answer: StepAnswer,
     pub register: Register,
@@ -63,14 +65,14 @@ pub struct Move {
 }
 
 // A step's answer and the machine after it: as it was where nothing was accepted.
-#[derive(Drop)]
+#[derive(Clone, Copy)]
 pub struct Stepped {
     pub answer: StepAnswer,
     pub machine: Machine,
 }
 
 // An entry's verdict and the machine after it: as it was where the verdict is a refusal.
-#[derive(Drop)]
+#[derive(Clone, Copy)]
 pub struct Changed {
     pub answer: Answer,
     pub machine: Machine,

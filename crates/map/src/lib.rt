@@ -1,5 +1,7 @@
 // The memory map: which addresses are protected, which a device covers, and where the byte of an address is.
 // No byte is read or stored here. Tables come by value and may hold anything; every function answers.
+#![tactic(auto)]
+
 mod devices;
 mod places;
 mod regions;
@@ -11,21 +13,21 @@ pub use regions::is_protected;
 pub use tables::{add_region, empty, protect, refused, register_device, valid};
 
 // A protected region: the addresses from start on, len of them.
-#[derive(Drop)]
+#[derive(Clone, Copy)]
 pub struct Region {
     pub start: u16,
     pub len: u16,
 }
 
 // A device: the addresses from start on, below end.
-#[derive(Drop)]
+#[derive(Clone, Copy)]
 pub struct Device {
     pub start: u16,
     pub end: u16,
 }
 
 // Both tables, each with the number of its entries in use. Unused entries of a valid map are zero.
-#[derive(Drop)]
+#[derive(Clone, Copy)]
 pub struct Map {
     pub regions: u16,
     pub region: [Region; 8],
@@ -34,7 +36,7 @@ pub struct Map {
 }
 
 // Where the byte of an address is kept.
-#[derive(Drop)]
+#[derive(Clone, Copy)]
 pub enum Place {
     // The byte of linear memory at this index.
     Linear(usize),
@@ -48,7 +50,7 @@ pub enum Place {
 }
 
 // An entry's verdict, and the map after it: as it was where the verdict is a refusal.
-#[derive(Drop)]
+#[derive(Clone, Copy)]
 pub struct Mapped {
     pub answer: Answer,
     pub map: Map,

@@ -1,5 +1,7 @@
 // Memory: lent linear bytes and lent device bytes, behind a map by value. Bytes, words, a program, reading out.
 // A store is decided first and made afterwards, so that a refusal has stored nothing.
+#![tactic(auto)]
+
 mod blocks;
 mod bytes;
 mod program;
@@ -13,14 +15,14 @@ pub use program::write_program;
 pub use words::{decide_byte, decide_word, fetch_word, make, read_word, store_word};
 
 // What reading a byte finds: the byte and the place that answered, or nobody.
-#[derive(Drop)]
+#[derive(Clone, Copy)]
 pub enum Read {
     Byte(u8, Place),
     Unmapped,
 }
 
 // What reading a word finds. It is refused at the last address alone.
-#[derive(Drop)]
+#[derive(Clone, Copy)]
 pub enum WordRead {
     Word(u16),
     NoWord,
@@ -28,7 +30,7 @@ pub enum WordRead {
 }
 
 // What becomes of a word's store. It is refused at the last address alone.
-#[derive(Drop)]
+#[derive(Clone, Copy)]
 pub enum Stored {
     Done,
     Failed,
@@ -36,7 +38,7 @@ pub enum Stored {
 }
 
 // A byte to be stored: its address, the place that takes it, and the byte.
-#[derive(Drop)]
+#[derive(Clone, Copy)]
 pub struct Change {
     pub address: u16,
     pub place: Place,
@@ -44,7 +46,7 @@ pub struct Change {
 }
 
 // The bytes to be stored, in their order.
-#[derive(Drop)]
+#[derive(Clone, Copy)]
 pub enum Changes {
     Nothing,
     One(Change),
@@ -52,14 +54,14 @@ pub enum Changes {
 }
 
 // A store that is decided and not yet made.
-#[derive(Drop)]
+#[derive(Clone, Copy)]
 pub struct Decision {
     pub outcome: Stored,
     pub changes: Changes,
 }
 
 // What reading out answers: how many bytes it copied, or the refusal.
-#[derive(Drop)]
+#[derive(Clone, Copy)]
 pub enum ReadOut {
     Count(usize),
     Refused(Refusal),

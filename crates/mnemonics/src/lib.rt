@@ -1,4 +1,6 @@
 // The mnemonics: which of the parsers reads the operands of a line, by the line's first token.
+#![tactic(auto)]
+
 mod rows;
 mod spelling;
 
@@ -6,7 +8,7 @@ use instruction::{ArithOp, ArithmeticOp, CompareOp};
 pub use spelling::kind_of;
 
 // How the operands of a mnemonic are read: which of the parsers, and what it is told.
-#[derive(Drop)]
+#[derive(Clone, Copy)]
 pub enum Kind {
     // no mnemonic; it is the first because it is what stands past the end of a table
     Unknown,
@@ -27,7 +29,7 @@ pub enum Kind {
 }
 
 // A row of the table: the name in upper case, with zeros after its length.
-#[derive(Drop)]
+#[derive(Clone, Copy)]
 pub struct Mnemonic {
     pub name: [u8; 5],
     pub length: usize,

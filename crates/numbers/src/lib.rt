@@ -1,4 +1,6 @@
 // The numbers between a C host and the entries: the one that it gets for an answer, and ranges as its size_t has them.
+#![tactic(auto)]
+
 mod answers;
 mod ranges;
 

@@ -12,21 +12,21 @@ use instruction::Register;
 use text::Immediate;
 
 // A number of eight bits, or why there is none.
-#[derive(Drop)]
+#[derive(Clone, Copy)]
 pub enum Byte {
     Is(u8),
     Refused(Refusal),
 }
 
 // The operands of MSL and MSR, or why there are none: register, immediate, amount.
-#[derive(Drop)]
+#[derive(Clone, Copy)]
 pub enum Shift {
     By(Register, u16, u8),
     Refused(Refusal),
 }
 
 // An address register and its shift, or why there are none.
-#[derive(Drop)]
+#[derive(Clone, Copy)]
 pub enum Address {
     At(Register, u8),
     Refused(Refusal),

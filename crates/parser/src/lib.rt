@@ -1,4 +1,6 @@
 // What a line of assembly says: an instruction, or a reference that waits for a label's address.
+#![tactic(auto)]
+
 mod brackets;
 mod forms;
 mod jumps;
@@ -14,7 +16,7 @@ pub use lines::parse;
 pub use references::resolved;
 
 // An instruction that names a label, before it has the label's address.
-#[derive(Drop)]
+#[derive(Clone, Copy)]
 pub enum Reference {
     Jmp,
     CondJmp,
@@ -22,7 +24,7 @@ pub enum Reference {
 }
 
 // What the tokens of a line say. The name that a reference waits for is the line's second token.
-#[derive(Drop)]
+#[derive(Clone, Copy)]
 pub enum Parsed {
     Is(Instruction),
     Refers(Reference),

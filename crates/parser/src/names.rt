@@ -5,7 +5,7 @@ ghost use Rattle.parser.specs.Operands.{register_names};
 use instruction::Register;
 
 // A row of the table: the name, with zeros after its length.
-#[derive(Drop)]
+#[derive(Clone, Copy)]
 pub struct RegisterName {
     pub name: [u8; 5],
     pub length: usize,

@@ -10,14 +10,14 @@ use instruction::{Operand, Register};
 use text::Immediate;
 
 // A register or an immediate, or why there is neither.
-#[derive(Drop)]
+#[derive(Clone, Copy)]
 pub enum Value {
     Is(Operand),
     Refused(Refusal),
 }
 
 // The two operands of MOV, of ADD to DIV, and of the compares.
-#[derive(Drop)]
+#[derive(Clone, Copy)]
 pub enum Pair {
     Are(Register, Operand),
     Refused(Refusal),

@@ -9,14 +9,14 @@ use base::Refusal;
 use instruction::Register;
 
 // A register, or why there is none.
-#[derive(Drop)]
+#[derive(Clone, Copy)]
 pub enum Named {
     Is(Register),
     Refused(Refusal),
 }
 
 // The operands of a three-register form, or why there are none.
-#[derive(Drop)]
+#[derive(Clone, Copy)]
 pub enum Three {
     Are(Register, Register, Register),
     Refused(Refusal),

@@ -1,5 +1,7 @@
 // The source text, line by line: a reader that holds the text and its position. Each function over it is thin, and leaves the
 // work to one of `lines`, which takes a slice and a cursor.
+#![tactic(auto)]
+
 mod foreign;
 mod lines;
 
@@ -9,7 +11,7 @@ ghost use Rattle.reader.specs.Reader.{line_at, after_line, clean_at};
 pub use foreign::foreign_line;
 use lines::{after_line, clean_at, line_at};
 
-#[derive(Drop)]
+#[derive(Clone, Copy)]
 pub struct LineReader<'a> {
     pub text: &'a [u8],
     pub at: usize,

@@ -9,7 +9,7 @@ use printer::Printed;
 use source::Written;
 
 // What a command comes to: the state after it, and its answer.
-#[derive(Drop)]
+#[derive(Clone, Copy)]
 pub struct Outcome {
     pub state: State,
     pub said: Said,

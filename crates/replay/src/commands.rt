@@ -22,7 +22,7 @@ use crate::{lines, names, output};
 use journal::State;
 
 // The script after a line, and the place after its answer in the output.
-#[derive(Drop)]
+#[derive(Clone, Copy)]
 pub struct Turn {
     pub script: Script,
     pub at: usize,

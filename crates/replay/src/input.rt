@@ -10,7 +10,7 @@ type Line = [u8; 524288];
 type Chunk = [u8; 65536];
 
 // How far input and output are.
-#[derive(Drop)]
+#[derive(Clone, Copy)]
 struct Flow {
     // How much was read into the chunk, and how much of that was taken.
     count: usize,
@@ -25,14 +25,14 @@ struct Flow {
 }
 
 // The script so far, and how far its text is.
-#[derive(Drop)]
+#[derive(Clone, Copy)]
 struct Session {
     script: Script,
     flow: Flow,
 }
 
 // What was taken of a chunk: how much of a line there is now, where to go on, and whether the line is whole.
-#[derive(Drop)]
+#[derive(Clone, Copy)]
 struct Part {
     have: usize,
     next: usize,

@@ -5,7 +5,7 @@ use crate::parse::{NOWHERE, NameField, NumberField, name, number, opened};
 use crate::texts::{Text, hex_text, no_text, spelt};
 use crate::{names, rows};
 
-#[derive(Drop)]
+#[derive(Clone, Copy)]
 pub struct Command {
     pub name: u64,
     pub lent: u8,
@@ -23,7 +23,7 @@ pub struct Command {
 }
 
 // Five numbers, and where the last of them ended.
-#[derive(Drop)]
+#[derive(Clone, Copy)]
 pub struct Numbers {
     pub a: u32,
     pub b: u32,

@@ -1,6 +1,8 @@
 // replay: reads commands from standard input, one a line, and writes one answer line for each. A command calls one
 // function of the proved crates and prints what that answered, so that a script can be sent to any other
 // implementation of document 01 and the two texts compared. A line that is not right answers `?` and changes nothing.
+#![tactic(auto)]
+
 mod adler;
 mod answers;
 mod assembling;

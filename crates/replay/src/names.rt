@@ -100,7 +100,7 @@ const LINE_ROOM: usize = 524288;
 
 // The fields of a line, in their order: a word to choose by, up to five numbers, up to two texts, a list. The command reads
 // its list itself.
-#[derive(Drop)]
+#[derive(Clone, Copy)]
 pub struct Shape {
     pub lent: u8,
     pub choice: u8,

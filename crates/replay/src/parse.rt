@@ -10,20 +10,20 @@ use crate::names::NO_NAME;
 // No place of a line: every line is shorter.
 pub const NOWHERE: usize = 18446744073709551615;
 
-#[derive(Drop)]
+#[derive(Clone, Copy)]
 pub struct NumberField {
     pub value: u32,
     pub next: usize,
 }
 
-#[derive(Drop)]
+#[derive(Clone, Copy)]
 pub struct WordField {
     pub value: u16,
     pub next: usize,
 }
 
 // How many words or entries were read, and where the last of them ended.
-#[derive(Drop)]
+#[derive(Clone, Copy)]
 pub struct WordList {
     pub count: usize,
     pub next: usize,
@@ -40,7 +40,7 @@ pub fn byte_at(line: &[u8], at: usize) -> u8 {
 }
 
 // A name as a number whose bytes are its letters, and where it ends.
-#[derive(Drop)]
+#[derive(Clone, Copy)]
 pub struct NameField {
     pub key: u64,
     pub next: usize,
@@ -196,7 +196,7 @@ fn past_comma(line: &[u8], at: usize) -> usize {
 }
 
 // A label entry as a field has it: three numbers with commas between them.
-#[derive(Drop)]
+#[derive(Clone, Copy)]
 pub struct EntryField {
     pub place: usize,
     pub length: usize,

@@ -1,7 +1,7 @@
 // A short answer, by value: put together piece by piece, and written to the output once. The longest is an instruction's word and
 // its text, 69 bytes at most; what has no room is left out.
 
-#[derive(Drop)]
+#[derive(Clone, Copy)]
 pub struct Said {
     pub bytes: [u8; 80],
     pub len: usize,

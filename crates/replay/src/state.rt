@@ -12,7 +12,7 @@ pub type Journal = [u8; 94300];
 
 // The machine with its journal's cursor, and how much of each buffer the last `new` asked for. The rest of a buffer is never
 // lent to a command.
-#[derive(Drop)]
+#[derive(Clone, Copy)]
 pub struct Script {
     pub state: State,
     pub mem: usize,

@@ -4,7 +4,7 @@ ghost use Rattle.std.specs.Prelude.{◌+◌, ◌*◌, ◌≤◌, ◌<◌, length
 use crate::parse::{NOWHERE, byte_at, opened};
 
 // Where a text's digits, and then its bytes, stand in the line, and where the field ends.
-#[derive(Drop)]
+#[derive(Clone, Copy)]
 pub struct Text {
     pub start: usize,
     pub end: usize,

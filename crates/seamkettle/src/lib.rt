@@ -1,5 +1,7 @@
 // What a C host calls: each function takes numbers and lent bytes and answers one number (include/seamkettle.h says the same in C).
 // A machine's state comes and goes in its block, so nothing is kept between two calls.
+#![tactic(auto)]
+
 mod programs;
 mod steps;
 mod tables;

@@ -6,7 +6,7 @@ ghost use Rattle.source.specs.Source.{jump_to, aim_of, inside};
 use instruction::{Instruction, Operand};
 use parser::Reference;
 
-#[derive(Drop)]
+#[derive(Clone, Copy)]
 pub enum Aim {
     Nowhere,
     // which of the three, and the address

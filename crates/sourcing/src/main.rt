@@ -1,6 +1,8 @@
 // sourcing: reads words from standard input, the low byte of each first, and writes their assembly text to standard output; or one line
 // that says the refusal, `refused N at K`, with the word's index for 33 and 0 for each other. No text starts with a small letter.
 // It only moves bytes in and out; `source` makes the text.
+#![tactic(auto)]
+
 use base::number;
 use libc::{STDIN_FILENO, STDOUT_FILENO};
 use pen::{decimal, put, put_all};

@@ -1,4 +1,6 @@
 // Text as the assembler looks at it: blanks, lines, tokens as parts of the text they occupy, immediates.
+#![tactic(auto)]
+
 mod blanks;
 mod immediates;
 mod lines;
@@ -13,7 +15,7 @@ pub use parts::{drop_final, drop_leading, same, trim_end};
 pub use tokens::{count_tokens, second_start, token};
 
 // What reading an immediate answers.
-#[derive(Drop)]
+#[derive(Clone, Copy)]
 pub enum Immediate {
     Is(u16),
     Refused(Refusal),

@@ -1,4 +1,6 @@
 // Words as bytes, the low byte of each first: a word at a byte of a buffer, eight in a row, and a whole buffer of them.
+#![tactic(auto)]
+
 mod buffers;
 mod places;
 
