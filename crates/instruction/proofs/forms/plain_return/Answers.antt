@@ -1,0 +1,6 @@
+-- Each branch is the definition's case. Assumes nothing.
+use borrow.Author.Rules.{rules}
+use Rattle.instruction.proofs.forms.plain_return.Goals as goal
+
+pub returns-then-ret : goal.returns-then-ret
+returns-then-ret c = rw c.if-ret.true

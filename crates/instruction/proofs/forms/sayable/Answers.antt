@@ -1,0 +1,6 @@
+-- Each arm is the definition's clause. Assumes nothing.
+use borrow.Author.Rules.{rules}
+use Rattle.instruction.proofs.forms.sayable.Goals as goal
+
+pub returns-in-CallRet : goal.returns-in-CallRet
+returns-in-CallRet c = rw c.in-CallRet.is c.plain_return.ensures
