@@ -1,0 +1,12 @@
+-- Each branch adds the definition's name of its case. Assumes nothing.
+use Rattle.printer.specs.Text.{word_name}
+use borrow.Author.Rules.{rules}
+use Rattle.printer.proofs.names.word_name.Goals as goal
+
+pub returns-then-store : goal.returns-then-store
+unfolding word_name
+returns-then-store c = rw c.if-store.true c.add.ensures
+
+pub returns : goal.returns
+unfolding word_name
+returns c = rw c.if-store.false c.add-2.ensures
