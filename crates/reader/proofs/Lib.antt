@@ -1,4 +1,2 @@
-pub mod Apart
 pub mod LineLaws
 pub mod Search
-pub mod Told

@@ -1,5 +1,5 @@
 -- Lines: the first ends where the first byte 10 stands, and the others follow it.
-use Prim.Native.Nat.{◌+◌, ◌-◌, ◌<◌, ◌≤◌, suc, ℕ}
+use Prim.Native.Nat.{◌+◌, ◌-◌, ◌<◌, suc, ℕ}
 use lib.Dec.{eqb}
 use lib.ListN.{drop, length, length-drop, take}
 use lib.Seq.{drop-drop}

@@ -1,5 +1,5 @@
 -- The tokens of a line: the longest parts with no blank in them, in order.
-use Rattle.std.specs.Prelude.{ℕ, ◌+◌, List, [], ◌∷◌, Bool, true, false, not, drop}
+use Rattle.std.specs.Prelude.{ℕ, ◌+◌, List, [], ◌∷◌, Bool, false, not, drop}
 use Rattle.base.specs.Choice.{cond}
 use Rattle.text.specs.Parts.{is_blank, not_blank, run, drop_front}
 

@@ -6,6 +6,7 @@ use crate::Immediate;
 use base::Refusal;
 
 // The value of a digit, in either case; 99 of another byte.
+#[tactic(auto, unfolding(crate::specs::Immediates::digit_of))]
 fn digit(b: u8) -> u32
     ensures { (result ≡ digit_of b) × (result ≤ 99) }
 {
@@ -87,6 +88,7 @@ fn value(s: &[u8]) -> Immediate
     number(after_plus(s), 10)
 }
 
+#[tactic(auto, unfolding(crate::specs::Immediates::immediate))]
 pub fn parse_immediate(token: &[u8]) -> Immediate
     ensures { told result ≡ immediate token.now }
 {
