@@ -11,7 +11,7 @@ use Rattle.map.specs.Tables.{any, sound}
 use Rattle.map.specs.Regions.{region_covers, regions_overlap, region_in_range, region_is_set, used_regions, spare_regions}
 use Rattle.map.specs.Devices.{device_size, devices_overlap, device_in_range, device_is_set, used_devices, spare_devices, total}
 use Rattle.map.specs.Valid.{valid_regions, valid_devices, valid}
-use Rattle.map.specs.Entries.{region, device, protect_order, with_region, region_number, device_order, with_device, device_number}
+use Rattle.map.specs.Entries.{protect_order, with_region, region_number, device_order, with_device, device_number}
 use Rattle.map.specs.declared.Region.{Region}
 use Rattle.map.specs.declared.Device.{Device}
 use Rattle.map.specs.declared.Map.{Map}

@@ -6,6 +6,7 @@ ghost use Rattle.map.specs.Devices.{device_covers, covers_either, device_size, d
 use crate::regions::used;
 use crate::{Device, Map};
 
+#[tactic(auto, unfolding(crate::specs::Devices::device_covers))]
 pub fn device_covers(d: Device, a: u16) -> bool
     ensures { result ≡ device_covers a d }
 {
@@ -13,6 +14,7 @@ pub fn device_covers(d: Device, a: u16) -> bool
 }
 
 // Whether a device covers an address or the next one. One that starts at its end, or past it, covers none.
+#[tactic(auto, unfolding(crate::specs::Devices::covers_either, crate::specs::Devices::device_covers))]
 pub fn covers_either(d: Device, a: u16, b: u16) -> bool
     requires { b ≡ a + 1 }
     ensures { result ≡ covers_either a b d }
@@ -27,6 +29,7 @@ pub fn covers_either(d: Device, a: u16, b: u16) -> bool
 }
 
 // How many bytes of the device buffer a device has: none where it starts past its end.
+#[tactic(auto, unfolding(crate::specs::Devices::device_size))]
 pub fn device_size(d: Device) -> usize
     ensures value { result ≡ device_size d }
     ensures upper_bound { result ≤ 65535 }
@@ -38,6 +41,7 @@ pub fn device_size(d: Device) -> usize
     }
 }
 
+#[tactic(auto, unfolding(crate::specs::Devices::devices_overlap))]
 pub fn devices_overlap(e: Device, d: Device) -> bool
     ensures { result ≡ devices_overlap e d }
 {
@@ -64,12 +68,14 @@ pub fn device_meets(m: Map, from: usize, e: Device) -> bool
 }
 
 // Its end is in range by its width, so it is left to test that it does not start past it.
+#[tactic(auto, unfolding(crate::specs::Devices::device_in_range))]
 fn device_in_range(d: Device) -> bool
     ensures { result ≡ device_in_range d }
 {
     d.start <= d.end
 }
 
+#[tactic(auto, unfolding(crate::specs::Devices::device_is_set))]
 fn device_is_set(d: Device) -> bool
     ensures { result ≡ device_is_set d }
 {

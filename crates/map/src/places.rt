@@ -27,6 +27,7 @@ pub fn place_of(m: Map, mem: usize, dev: usize, a: u16) -> Place
 }
 
 // A device's byte, where the device buffer is long enough to have it.
+#[tactic(auto, unfolding(crate::specs::Places::in_bank))]
 fn in_bank(number: usize, offset: u16, base: usize, dev: usize) -> Place
     requires { base ≤ 524280 }
     ensures { result ≡ in_bank number offset base dev }
@@ -42,6 +43,7 @@ fn in_bank(number: usize, offset: u16, base: usize, dev: usize) -> Place
     Place::Nowhere
 }
 
+#[tactic(auto, unfolding(crate::specs::Places::in_linear))]
 fn in_linear(mem: usize, a: u16) -> Place
     ensures { result ≡ in_linear mem a }
 {
@@ -53,6 +55,7 @@ fn in_linear(mem: usize, a: u16) -> Place
 }
 
 // Where a store to address a goes: a protected linear byte takes none.
+#[tactic(auto, unfolding(crate::specs::Places::target, crate::specs::Places::guard))]
 pub fn target_of(m: Map, mem: usize, dev: usize, a: u16) -> Place
     ensures { result ≡ target m mem dev a }
 {
@@ -77,6 +80,7 @@ pub fn target_of(m: Map, mem: usize, dev: usize, a: u16) -> Place
     }
 }
 
+#[tactic(auto, unfolding(crate::specs::Places::somewhere))]
 pub fn is_somewhere(p: Place) -> bool
     ensures { result ≡ somewhere p }
 {

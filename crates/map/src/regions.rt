@@ -12,6 +12,7 @@ pub fn used(count: u16) -> usize
     if count < 8 { count as usize } else { 8 }
 }
 
+#[tactic(auto, unfolding(crate::specs::Regions::region_covers))]
 pub fn region_covers(r: Region, a: u16) -> bool
     ensures { result ≡ region_covers a r }
 {
@@ -36,6 +37,7 @@ pub fn is_protected(m: Map, a: u16) -> bool
     false
 }
 
+#[tactic(auto, unfolding(crate::specs::Regions::regions_overlap))]
 pub fn regions_overlap(t: Region, r: Region) -> bool
     ensures { result ≡ regions_overlap t r }
 {
@@ -60,12 +62,14 @@ pub fn region_meets(m: Map, from: usize, t: Region) -> bool
     false
 }
 
+#[tactic(auto, unfolding(crate::specs::Regions::region_in_range))]
 fn region_in_range(r: Region) -> bool
     ensures { result ≡ region_in_range r }
 {
     r.len <= 65535 - r.start
 }
 
+#[tactic(auto, unfolding(crate::specs::Regions::region_is_set))]
 fn region_is_set(r: Region) -> bool
     ensures { result ≡ region_is_set r }
 {

@@ -23,6 +23,7 @@ pub fn empty() -> Map
     }
 }
 
+#[tactic(auto, unfolding(crate::specs::Valid::valid_regions))]
 fn valid_regions(m: Map) -> bool
     ensures { result ≡ valid_regions m }
 {
@@ -35,6 +36,7 @@ fn valid_regions(m: Map) -> bool
     regions_sound(m)
 }
 
+#[tactic(auto, unfolding(crate::specs::Valid::valid_devices))]
 fn valid_devices(m: Map) -> bool
     ensures { result ≡ valid_devices m }
 {
@@ -48,6 +50,7 @@ fn valid_devices(m: Map) -> bool
 }
 
 // Whether both tables are valid, and the device buffer has room for the devices.
+#[tactic(auto, unfolding(crate::specs::Valid::valid))]
 pub fn valid(m: Map, dev: &[u8]) -> bool
     ensures { result ≡ valid m dev.now }
 {

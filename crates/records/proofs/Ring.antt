@@ -36,6 +36,12 @@ before-step d k h l =
     let f : k - 1 < d = omega arith in
     rw (e, add-mod_right) (mod-eq_of_lt f)
 
+pub before-first : (d k : ℕ) → k ≡ 0 → k < d → slot_before d k ≡ d - 1
+before-first d k z l = let p : 0 < d = omega arith in rw z (before-wrap d p)
+
+-- the slot before, as the code finds it: either the slot is not the first, or the ring's last one is before it
+pub ruleset found_before = (before-step, before-first)
+
 -- one on and one back is where it was
 pub before-after : (d k : ℕ) → k < d → slot_before d (slot_after d k) ≡ k
 before-after d k h = go (eqb (k + 1) d) refl

@@ -21,6 +21,7 @@ pub fn slot_after(d: u16, k: u16) -> u16
     if k + 1 < d { k + 1 } else { 0 }
 }
 
+#[tactic(auto, using(crate::proofs::Ring::found_before))]
 pub fn slot_before(d: u16, k: u16) -> u16
     requires { k < d }
     ensures { result ≡ slot_before d k }
