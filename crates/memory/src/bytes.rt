@@ -6,6 +6,7 @@ use crate::Read;
 use map::{Map, Place};
 
 // The byte at a place, where the bytes lent have it.
+#[tactic(auto, unfolding(crate::specs::Bytes::get, crate::specs::Bytes::read_in))]
 pub fn read_at(p: Place, mem: &[u8], dev: &[u8]) -> Read
     ensures { result ≡ get p (lent mem.now dev.now) }
 {
@@ -33,6 +34,7 @@ pub fn read_at(p: Place, mem: &[u8], dev: &[u8]) -> Read
 }
 
 // The byte stored at a place, where the bytes lent have it.
+#[tactic(auto, unfolding(crate::specs::Bytes::put))]
 pub fn store_at(p: Place, mem: &mut [u8], dev: &mut [u8], v: u8)
     ensures { lent mem.new dev.new ≡ put p (lent mem.old dev.old) v }
 {
@@ -55,6 +57,7 @@ pub fn store_at(p: Place, mem: &mut [u8], dev: &mut [u8], v: u8)
     }
 }
 
+#[tactic(auto, unfolding(crate::specs::Bytes::read_byte, crate::specs::Bytes::place_in))]
 pub fn read_byte(m: Map, mem: &[u8], dev: &[u8], a: u16) -> Read
     ensures { result ≡ read_byte m (lent mem.now dev.now) a }
 {
@@ -63,6 +66,7 @@ pub fn read_byte(m: Map, mem: &[u8], dev: &[u8], a: u16) -> Read
 }
 
 // Whether a store at the address would be made.
+#[tactic(auto, unfolding(crate::specs::Bytes::takes, crate::specs::Bytes::target_in))]
 pub fn takes_byte(m: Map, mem: &[u8], dev: &[u8], a: u16) -> bool
     ensures { result ≡ takes m (lent mem.now dev.now) a }
 {
@@ -71,6 +75,7 @@ pub fn takes_byte(m: Map, mem: &[u8], dev: &[u8], a: u16) -> bool
 }
 
 // Stores a byte; whether it was stored.
+#[tactic(auto, unfolding(crate::specs::Bytes::takes, crate::specs::Bytes::store_byte, crate::specs::Bytes::target_in))]
 pub fn store_byte(m: Map, mem: &mut [u8], dev: &mut [u8], a: u16, v: u8) -> bool
     ensures value { result ≡ takes m (lent mem.old dev.old) a }
     ensures dev_after { lent mem.new dev.new ≡ store_byte m (lent mem.old dev.old) a v }

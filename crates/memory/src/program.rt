@@ -10,6 +10,7 @@ use crate::words::store_word;
 use base::{InstructionIndex, Refusal};
 use map::{Map, Mapped, Region};
 
+#[tactic(auto, unfolding(crate::specs::Words::is_done))]
 fn is_done(r: Stored) -> bool
     ensures { result ≡ is_done (told_store r) }
 {

@@ -10,6 +10,7 @@ use crate::{Change, Changes, Decision, Read, Stored, WordRead};
 use base::{Reached, Refusal};
 use map::Map;
 
+#[tactic(auto, unfolding(crate::specs::Words::joined))]
 fn join(low: u8, high: Read) -> WordRead
     ensures { told_word result ≡ is (joined low high) }
 {
@@ -19,6 +20,7 @@ fn join(low: u8, high: Read) -> WordRead
     }
 }
 
+#[tactic(auto, unfolding(crate::specs::Words::read_word, crate::specs::Words::read_high))]
 pub fn read_word(m: Map, mem: &[u8], dev: &[u8], a: u16) -> WordRead
     ensures { told_word result ≡ read_word m (lent mem.now dev.now) a }
 {
@@ -51,6 +53,7 @@ pub fn fetch_word(m: Map, mem: &[u8], dev: &[u8], a: u16) -> WordRead
 }
 
 // What storing a byte comes to.
+#[tactic(auto, unfolding(crate::specs::Words::byte_decision, crate::specs::Words::byte_stored, crate::specs::Words::change_at, crate::specs::Bytes::takes, crate::specs::Bytes::target_in))]
 pub fn decide_byte(m: Map, mem: &[u8], dev: &[u8], a: u16, v: u8) -> Decision
     ensures { decided result ≡ byte_decision m (lent mem.now dev.now) a v }
 {
@@ -73,6 +76,7 @@ pub fn decide_byte(m: Map, mem: &[u8], dev: &[u8], a: u16, v: u8) -> Decision
 }
 
 // What storing a word comes to.
+#[tactic(auto, unfolding(crate::specs::Words::word_decision, crate::specs::Words::word_stored, crate::specs::Words::word_changes, crate::specs::Words::change_at, crate::specs::Bytes::takes, crate::specs::Bytes::target_in))]
 pub fn decide_word(m: Map, mem: &[u8], dev: &[u8], a: u16, w: u16) -> Decision
     ensures { decided result ≡ word_decision m (lent mem.now dev.now) a w }
 {
@@ -98,6 +102,7 @@ pub fn decide_word(m: Map, mem: &[u8], dev: &[u8], a: u16, w: u16) -> Decision
 }
 
 // The same, once the low byte is known to be taken and the high byte to have an address.
+#[tactic(auto, unfolding(crate::specs::Words::byte_stored, crate::specs::Words::high_change, crate::specs::Words::change_at, crate::specs::Bytes::takes, crate::specs::Bytes::target_in))]
 fn decide_high(m: Map, mem: &[u8], dev: &[u8], a: u16, w: u16, first: Change) -> Decision
     ensures { decided result ≡ decides (is (byte_stored m (lent mem.now dev.now) a)) (high_change m (lent mem.now dev.now) a (high_of w) first) }
 {
@@ -120,6 +125,7 @@ fn decide_high(m: Map, mem: &[u8], dev: &[u8], a: u16, w: u16, first: Change) ->
 }
 
 // Makes the stores that were decided.
+#[tactic(auto, unfolding(crate::specs::Words::made))]
 pub fn make(c: Changes, mem: &mut [u8], dev: &mut [u8])
     ensures { lent mem.new dev.new ≡ made c (lent mem.old dev.old) }
 {

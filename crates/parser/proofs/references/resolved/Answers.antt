@@ -1,0 +1,14 @@
+-- Each arm is a row of the definition.
+use borrow.Author.Rules.{rules}
+use Rattle.parser.proofs.references.resolved.Reads as reads
+use Rattle.parser.proofs.references.resolved.Lts as lts
+use Rattle.parser.proofs.references.resolved.Goals as goal
+
+pub returns-in-Jmp : goal.returns-in-Jmp
+returns-in-Jmp c = rw c.in-Jmp.is
+
+pub returns-in-CondJmp : goal.returns-in-CondJmp
+returns-in-CondJmp c = rw c.in-CondJmp.is
+
+pub returns-in-Call : goal.returns-in-Call
+returns-in-Call c = rw c.in-Call.is
