@@ -22,11 +22,11 @@ use Rattle.wordbytes.specs.Words as words
 use Rattle.records.specs.Records as records
 use Rattle.records.specs.Slots.{room, record_at, filled, slot_after, slot_before}
 use Rattle.journal.specs.States.{next_in, valid}
-use Rattle.journal.specs.Step.{result, is_accepted, byte_of, replaced, record_of, advanced, noted, taken, step}
+use Rattle.journal.specs.Step.{result_of, is_accepted, byte_of, replaced, record_of, advanced, noted, taken, step}
 use Rattle.journal.specs.Back as back
 use Rattle.journal.specs.Marked.{before, stored, restored}
 
-pub marked_step : step before ≡ result (is Continue) stored
+pub marked_step : step before ≡ result_of (is Continue) stored
 unfolding step valid next_in room machines.valid tables.valid tables.valid_regions any spare_regions region_is_set sound used_regions
     tables.valid_devices spare_devices device_is_set used_devices total
     taken machine.step is_accepted machine.committed plan registers.flag registers.get flags.flag

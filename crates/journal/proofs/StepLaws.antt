@@ -24,7 +24,7 @@ use Rattle.records.specs.declared.Record.{Record}
 use Rattle.records.proofs.Laws.{room-filled}
 use Rattle.records.proofs.Ring.{after-lt}
 use Rattle.journal.specs.States.{Whole, whole, state, valid_whole}
-use Rattle.journal.specs.Step.{Result, result, is_accepted, record_of, advanced, noted, recorded, moved, taken, step}
+use Rattle.journal.specs.Step.{Result, result_of, is_accepted, record_of, advanced, noted, recorded, moved, taken, step}
 use Rattle.journal.proofs.StateLaws.{Parts, parts, together, next-slot}
 
 -- a step of the machine alone, and the record of it
@@ -51,7 +51,7 @@ record-registers s b (Two x y) = refl
 module _ (w : Whole) where
   -- ---- a step, valid state or not
 
-  pub invalid-step : valid_whole w ≡ false → step w ≡ result (no 1) w
+  pub invalid-step : valid_whole w ≡ false → step w ≡ result_of (no 1) w
   unfolding step
   invalid-step h = rw h
 

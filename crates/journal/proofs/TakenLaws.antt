@@ -21,7 +21,7 @@ use Rattle.records.specs.declared.Record.{Record}
 use Rattle.journal.specs.declared.State.{State}
 use Rattle.journal.specs.States.{Whole, whole, state, valid, valid_whole}
 use Rattle.journal.proofs.StateLaws.{valid-of, valid-machine, valid-held, valid-next}
-use Rattle.journal.specs.Step.{result, is_accepted, record_of, advanced, noted, recorded, moved, taken, step}
+use Rattle.journal.specs.Step.{result_of, is_accepted, record_of, advanced, noted, recorded, moved, taken, step}
 
 -- what the machine's own plan is, over the whole state
 abbrev pub plan_of : Whole → Planned
@@ -40,18 +40,18 @@ module _ (w : Whole) (v : valid_whole w ≡ true) where
   committed-parts = machine_laws.committed-as w.state.machine w.bytes (plan_of w)
 
   -- Stop and refusals
-  pub step-not : is_accepted (plan_of w).answer ≡ false → step w ≡ result (plan_of w).answer w
+  pub step-not : is_accepted (plan_of w).answer ≡ false → step w ≡ result_of (plan_of w).answer w
   unfolding taken
   step-not f = step-taken ∙ ap (taken w) committed-parts ∙ rw f
 
   -- Continue and Debug
   pub step-accepted : is_accepted (plan_of w).answer ≡ true
-      → step w ≡ result (plan_of w).answer (recorded (record_of w.state.machine.registers w.bytes (plan_of w).changes) (moved w (committed_of w)))
+      → step w ≡ result_of (plan_of w).answer (recorded (record_of w.state.machine.registers w.bytes (plan_of w).changes) (moved w (committed_of w)))
   unfolding taken
   step-accepted t =
       let r = record_of w.state.machine.registers w.bytes (plan_of w).changes in
       step-taken ∙ ap (taken w) committed-parts
-      ∙ rw t (ap (λ (a : machine.After). result (plan_of w).answer (recorded r (moved w a))) (sym committed-parts))
+      ∙ rw t (ap (λ (a : machine.After). result_of (plan_of w).answer (recorded r (moved w a))) (sym committed-parts))
 
   -- the same, part by part, as the code has them: the plan p, the machine's step a, the record r, the state and the journal after it
   pub step-made : (p : Planned) (a : machine.After) (r : Record) (s : State) (j : List ℕ) → p ≡ plan_of w → is_accepted p.answer ≡ true
@@ -59,7 +59,7 @@ module _ (w : Whole) (v : valid_whole w ≡ true) where
       → a ≡ machine.committed w.state.machine w.bytes p
       → s ≡ advanced (state a.machine w.state.next w.state.held) (room w.journal)
       → j ≡ noted w.state.next (room w.journal) r w.journal
-      → result p.answer (whole s a.bytes j) ≡ step w
+      → result_of p.answer (whole s a.bytes j) ≡ step w
   step-made p a r s j e t f g h i = rw (h, i, f, g, e) (sym (step-accepted (rw (← e) t)))
 
 -- ---- it stays valid

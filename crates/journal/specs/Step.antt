@@ -25,8 +25,8 @@ pub record Result : Type 0 where
   pub answer : Told answers.Reply
   pub whole : Whole
 
-abbrev pub result : Told answers.Reply → Whole → Result
-result a w = record { answer = a; whole = w }
+abbrev pub result_of : Told answers.Reply → Whole → Result
+result_of a w = record { answer = a; whole = w }
 
 -- accepted means Continue or Debug
 unfoldable pub is_accepted : Told answers.Reply → Bool
@@ -75,11 +75,11 @@ moved w a = whole (state a.machine w.state.next w.state.held) a.bytes w.journal
 unfoldable pub taken : Whole → machine.After → Result
 taken w a =
     let m = w.state.machine in
-    result a.answer
+    result_of a.answer
     (cond (is_accepted a.answer) (recorded (record_of m.registers w.bytes (plan m w.bytes).changes) (moved w a)) w)
 
 -- 1 first
 unfoldable pub step : Whole → Result
 step w =
     cond (valid w.state w.bytes.dev w.journal) (taken w (machine.step w.state.machine w.bytes))
-    (result (no 1) w)
+    (result_of (no 1) w)

@@ -5,7 +5,7 @@ ghost use Rattle.base.specs.Told.{no};
 ghost use Rattle.machine.specs.Answers.{answered};
 ghost use Rattle.memory.specs.Bytes.{lent};
 ghost use Rattle.journal.specs.States.{whole};
-ghost use Rattle.journal.specs.Step.{result, step};
+ghost use Rattle.journal.specs.Step.{result_of, step};
 ghost use Rattle.journal.specs.Run.{goes_on, counts, ran, run};
 
 use crate::states::valid;
@@ -15,7 +15,7 @@ use base::Refusal;
 use machine::StepAnswer;
 
 fn goes_on(a: StepAnswer) -> bool
-    ensures* { λ t. ⌜ t ≡ goes_on (answered a) ⌝ }
+    ensures { result ≡ goes_on (answered a) }
 {
     match a {
         StepAnswer::Continue => true,
@@ -27,15 +27,15 @@ fn goes_on(a: StepAnswer) -> bool
 
 // What a step adds to a run's count.
 fn counts(a: StepAnswer) -> u32
-    ensures* k_value { λ k. ⌜ k ≡ counts (answered a) ⌝ }
-    ensures* k_bound { λ k. ⌜ k ≤ 1 ⌝ }
+    ensures k_value { result ≡ counts (answered a) }
+    ensures k_bound { result ≤ 1 }
 {
     if is_accepted(a) { 1 } else { 0 }
 }
 
 // What becomes of a state that is not valid.
 fn no_run(s: State) -> Ran
-    ensures* { λ r. ⌜ (answered r.answer ≡ no 1) × (r.count ≡ 0) × (r.state ≡ s) ⌝ }
+    ensures { (answered result.answer ≡ no 1) × (result.count ≡ 0) × (result.state ≡ s) }
 {
     Ran {
         answer: StepAnswer::Refused(Refusal::BadState),
@@ -46,8 +46,7 @@ fn no_run(s: State) -> Ran
 
 // At most n steps: 1 first, then the last step's answer, Continue for n = 0; and how many were accepted.
 pub fn run(s: State, mem: &mut [u8], dev: &mut [u8], journal: &mut [u8], n: u32) -> Ran
-    ensures* { λ r.
-        ⌜ ran (answered r.answer) r.count (whole r.state (lent mem.new dev.new) journal.new) ≡ run n (whole s (lent mem.old dev.old) journal.old) ⌝ }
+    ensures { ran (answered result.answer) result.count (whole result.state (lent mem.new dev.new) journal.new) ≡ run n (whole s (lent mem.old dev.old) journal.old) }
 {
     if !valid(s, dev, journal) {
         return no_run(s);
@@ -87,8 +86,7 @@ pub fn run(s: State, mem: &mut [u8], dev: &mut [u8], journal: &mut [u8], n: u32)
 
 // One step, recorded: 1, then as the machine's own. Anything but an accepted step changes nothing. It is a run of one.
 pub fn step(s: State, mem: &mut [u8], dev: &mut [u8], journal: &mut [u8]) -> Stepped
-    ensures* { λ r.
-        ⌜ result (answered r.answer) (whole r.state (lent mem.new dev.new) journal.new) ≡ step (whole s (lent mem.old dev.old) journal.old) ⌝ }
+    ensures { result_of (answered result.answer) (whole result.state (lent mem.new dev.new) journal.new) ≡ step (whole s (lent mem.old dev.old) journal.old) }
 {
     let r = run(s, mem, dev, journal, 1);
     let answer = r.answer;

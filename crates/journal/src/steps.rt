@@ -7,7 +7,7 @@ ghost use Rattle.memory.specs.Bytes.{lent};
 ghost use Rattle.records.specs.Slots.{room};
 ghost use Rattle.journal.specs.States.{whole, state, valid};
 ghost use Rattle.journal.specs.Turns.{state_of, going_from, going_after};
-ghost use Rattle.journal.specs.Step.{result, is_accepted, replaced, record_of, advanced, noted, step};
+ghost use Rattle.journal.specs.Step.{result_of, is_accepted, replaced, record_of, advanced, noted, step};
 
 use crate::State;
 use instruction::Register;
@@ -36,7 +36,7 @@ pub struct Turned {
 
 // Continue and Debug.
 pub fn is_accepted(a: StepAnswer) -> bool
-    ensures* { λ t. ⌜ t ≡ is_accepted (answered a) ⌝ }
+    ensures { result ≡ is_accepted (answered a) }
 {
     match a {
         StepAnswer::Continue => true,
@@ -48,7 +48,7 @@ pub fn is_accepted(a: StepAnswer) -> bool
 
 // The byte that is still at the place of a byte to be stored.
 fn replaced(x: Change, mem: &[u8], dev: &[u8]) -> Old
-    ensures* { λ o. ⌜ o ≡ replaced (lent mem.now dev.now) x ⌝ }
+    ensures { result ≡ replaced (lent mem.now dev.now) x }
 {
     let address = x.address;
     let p = x.place;
@@ -60,7 +60,7 @@ fn replaced(x: Change, mem: &[u8], dev: &[u8]) -> Old
 
 // The record of a step that is planned and not yet made.
 fn record_of(registers: [u16; 8], mem: &[u8], dev: &[u8], c: Changes) -> Record
-    ensures* { λ r. ⌜ r ≡ record_of (regs registers) (lent mem.now dev.now) c ⌝ }
+    ensures { result ≡ record_of (regs registers) (lent mem.now dev.now) c }
 {
     let none = Old {
         address: 0,
@@ -100,9 +100,8 @@ fn note(
 ) -> Ring
     requires d_value { d ≡ room journal.old }
     requires held_le_d { (ring.held ≤ d) × (ring.next < max 1 d) }
-    ensures* fact { λ r. ⌜ ((m : Machine) → state m r.next r.held ≡ advanced (state m ring.next ring.held) d) ⌝ }
-    ensures* journal_after { λ _.
-        ⌜ journal.new ≡ noted ring.next d (record_of (regs g.now) (lent mem.now dev.now) c) journal.old ⌝ }
+    ensures fact { ((m : Machine) → state m result.next result.held ≡ advanced (state m ring.next ring.held) d) }
+    ensures journal_after { journal.new ≡ noted ring.next d (record_of (regs g.now) (lent mem.now dev.now) c) journal.old }
 {
     if d == 0 {
         return ring;
@@ -117,7 +116,7 @@ fn note(
 
 // Nothing changes: PC, the sixth, gets what it has.
 fn unmoved(g: &[u16; 8], ring: Ring, answer: StepAnswer) -> Turned
-    ensures* { λ r. ⌜ (r.answer ≡ answer) × (going_after g.now r ≡ going_from g.now ring) ⌝ }
+    ensures { (result.answer ≡ answer) × (going_after g.now result ≡ going_from g.now ring) }
 {
     let pc = g[5];
     Turned {
@@ -142,9 +141,8 @@ pub fn turn(
 ) -> Turned
     requires d_value { d ≡ room journal.old }
     requires journal_value { valid (state_of (going_from g.now ring) mode map) dev.old journal.old ≡ true }
-    ensures* journal_after { λ r.
-        ⌜ result (answered r.answer) (whole (state_of (going_after g.now r) mode map) (lent mem.new dev.new) journal.new) ≡ step (whole (state_of (going_from g.now ring) mode map) (lent mem.old dev.old) journal.old) ⌝ }
-    ensures* journal_after_2 { λ r. ⌜ valid (state_of (going_after g.now r) mode map) dev.new journal.new ≡ true ⌝ }
+    ensures journal_after { result_of (answered result.answer) (whole (state_of (going_after g.now result) mode map) (lent mem.new dev.new) journal.new) ≡ step (whole (state_of (going_from g.now ring) mode map) (lent mem.old dev.old) journal.old) }
+    ensures journal_after_2 { valid (state_of (going_after g.now result) mode map) dev.new journal.new ≡ true }
 {
     let p = machine::move_of(g, mode, map, mem, dev);
     let answer = p.answer;
@@ -166,7 +164,7 @@ pub fn turn(
 
 // The state, put together again.
 pub fn state_of(g: [u16; 8], ring: Ring, mode: Mode, map: Map) -> State
-    ensures* { λ s. ⌜ s ≡ state_of (going_from g ring) mode map ⌝ }
+    ensures { result ≡ state_of (going_from g ring) mode map }
 {
     let registers = Registers { value: g };
     let machine = Machine {

@@ -39,7 +39,7 @@ use Rattle.memory.specs.declared.Changes.{Changes}
 use Rattle.memory.specs.declared.Changes.TheVariants.{Nothing}
 use Rattle.machine.specs.Answers.{Reply, Continue, Debug, Stop}
 use Rattle.machine.specs.Registers.{get, put, operand, flag}
-use Rattle.machine.specs.Acts.{Act, next, jump, onward, noop, mov, mov_shift, result, at_old_sp, kept, arith, arith_reg_reg, marked, cmp, jmp, cond_jmp, call, call_ret, word_loaded, byte_loaded, fault, ended, storing, word_at, byte_at, addressed, copied, cpy, act}
+use Rattle.machine.specs.Acts.{Act, next, jump, onward, noop, mov, mov_shift, result_of, at_old_sp, kept, arith, arith_reg_reg, marked, cmp, jmp, cond_jmp, call, call_ret, word_loaded, byte_loaded, fault, ended, storing, word_at, byte_at, addressed, copied, cpy, act}
 use Rattle.machine.specs.Plan.{Planned, plans, refusal, raised, finished, decoded, fetched, plan}
 use Rattle.machine.specs.Stores.{Storing, nothing, one_byte, one_word, at_address, copy_to, remainder_to, storing_of}
 use Rattle.machine.specs.declared.Machine.{Machine}
@@ -96,8 +96,8 @@ module _ (m : Machine) (b : Lent) (properties : Properties m) where
   noop-answers true = debugs
   noop-answers false = continues
 
-  result-good : (d : Register) (c : Changes) (x : Told ℕ) → Numbered 7 8 x → Stores c → Good (result s d c x)
-  unfolding result
+  result-good : (d : Register) (c : Changes) (x : Told ℕ) → Numbered 7 8 x → Stores c → Good (result_of s d c x)
+  unfolding result_of
   result-good d c (is v) k h = (continues, one-put d v, h)
   result-good d c (no n) k h = (omega (Omega.arith, k.0), omega (Omega.arith, k.1))
 

@@ -55,9 +55,9 @@ unfoldable pub mov_shift : Registers → Register → ℕ → Bool → ℕ → T
 mov_shift s d amount left imm = onward (put s d (moved (get s d) amount left imm))
 
 -- what an operator comes to goes into d, while the bytes of c are stored
-unfoldable pub result : Registers → Register → Changes → Told ℕ → Told Act
-result s d c (is v) = is (next Continue (put s d v) c)
-result s d c (no n) = no n
+unfoldable pub result_of : Registers → Register → Changes → Told ℕ → Told Act
+result_of s d c (is v) = is (next Continue (put s d v) c)
+result_of s d c (no n) = no n
 
 -- the remainder's low byte at the old SP; a failure is ignored
 unfoldable pub at_old_sp : Map → Lent → Registers → Told ℕ → Changes
@@ -72,10 +72,10 @@ kept m b s Mul x y = Nothing
 kept m b s Div x y = cond (flag s 1) (at_old_sp m b s (remainder x y)) Nothing
 
 unfoldable pub arith : Map → Lent → Registers → Register → Operand → ArithOp → Told Act
-arith m b s d o op = result s d (kept m b s op (get s d) (operand s o)) (arith_result op (get s d) (operand s o))
+arith m b s d o op = result_of s d (kept m b s op (get s d) (operand s o)) (arith_result op (get s d) (operand s o))
 
 unfoldable pub arith_reg_reg : Registers → Register → Register → Register → ArithmeticOp → Told Act
-arith_reg_reg s d x y op = result s d Nothing (arithmetic_result op (get s x) (get s y))
+arith_reg_reg s d x y op = result_of s d Nothing (arithmetic_result op (get s x) (get s y))
 
 -- FLAGS bit 3: a true compare sets it, a false one clears it, a taken CondJmp clears it
 unfoldable pub marked : Registers → Bool → Registers

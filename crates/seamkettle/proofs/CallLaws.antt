@@ -8,7 +8,7 @@ use Rattle.memory.specs.Bytes.{Lent}
 use Rattle.machine.specs.Answers as answers
 use Rattle.journal.specs.States.{whole}
 use Rattle.journal.specs.declared.State.{State}
-use Rattle.journal.specs.Step.{Result, result, step}
+use Rattle.journal.specs.Step.{Result, result_of, step}
 use Rattle.journal.specs.Run.{Ran, ran, run}
 use Rattle.journal.specs.Back.{Backed, backed, step_back}
 use Rattle.block.specs.Block.{is_block, packed, unpacked}
@@ -44,7 +44,7 @@ module _ (block : List ℕ) (e : is_block block ≡ false) where
 module _ (block : List ℕ) (e : is_block block ≡ true) {s : State} (u : s ≡ unpacked block) where
   module _ {t : State} {left : List ℕ} (p : left ≡ packed t) where
     module _ (b : Lent) (j : List ℕ) {c : Lent} {k : List ℕ} {n : ℕ} where
-      pub stepping-some : {a : Told answers.Reply} → result a (whole t c k) ≡ step (whole s b j) → n ≡ step_code a
+      pub stepping-some : {a : Told answers.Reply} → result_of a (whole t c k) ≡ step (whole s b j) → n ≡ step_code a
           → seen n left c k ≡ stepping block b j
       unfolding stepping
       stepping-some h m = rw (e, m, p, ← u) (ap (λ (x : Result). shown (step_code x.answer) x.whole) h)

@@ -9,7 +9,7 @@ use Rattle.machine.specs.Answers.{answered}
 use Rattle.memory.specs.Bytes.{lent}
 use Rattle.journal.specs.declared.State.{State}
 use Rattle.journal.specs.States.{Whole, whole, valid}
-use Rattle.journal.specs.Step.{result, step}
+use Rattle.journal.specs.Step.{result_of, step}
 use Rattle.journal.specs.Turns.{Going, state_of, going_from}
 use Rattle.journal.specs.Run.{goes_on, repeated, run}
 use Rattle.records.proofs.Laws.{room-length}
@@ -108,7 +108,7 @@ returns-2 c =
     let put = c.before.before.before.before.before.store in
     let u = of (going_from put.new.0 q.result.ring) in
     let z = stored h.g put.new.0 q.result put.ensures in
-    let e : result a u ≡ step w = ap (λ (y : Going). result a (of y)) z ∙ q.ensures.0 in
+    let e : result_of a u ≡ step w = ap (λ (y : Going). result_of a (of y)) z ∙ q.ensures.0 in
     let more = t.before.before.before.before.before.loop-test.true in
     let f : valid x.s x.dev.now x.journal.now ≡ true = sym l.before.before.before.before.before.before.before.before.before.valid.ensures ∙ not-false _ l.before.before.before.before.before.before.before.before.if1.false in
     let g : goes_on a ≡ false = sym c.before.before.before.goes_on.ensures ∙ not-true _ c.before.before.if2.true in
@@ -140,7 +140,7 @@ loop-again c =
     let put = c.before.before.before.store in
     let u = of (going_from put.new.0 q.result.ring) in
     let z = stored h.g put.new.0 q.result put.ensures in
-    let e : result a u ≡ step w = ap (λ (y : Going). result a (of y)) z ∙ q.ensures.0 in
+    let e : result_of a u ≡ step w = ap (λ (y : Going). result_of a (of y)) z ∙ q.ensures.0 in
     let more = t.before.before.before.before.before.loop-test.true in
     let g : goes_on a ≡ true = sym c.before.goes_on.ensures ∙ not-false _ c.if2.false in
     let k = ap (λ (y : Going). valid (state_of y mode map) q.new.1.1.1.1.1.0 q.new.1.1.1.1.1.1.0) z ∙ q.ensures.1 in

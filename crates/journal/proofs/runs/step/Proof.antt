@@ -2,7 +2,7 @@
 use mathlib.Core.Path.{ap, ◌∙◌}
 use Rattle.memory.specs.Bytes.{lent}
 use Rattle.journal.specs.States.{whole}
-use Rattle.journal.specs.Step.{result}
+use Rattle.journal.specs.Step.{result_of}
 use Rattle.journal.specs.Run.{Ran}
 use Rattle.journal.proofs.RunTurns.{run-one}
 use borrow.Author.Rules.{rules}
@@ -24,7 +24,7 @@ same-length-3 c = c.before.before.before.before.before.before.before.run.auto.1.
 returns : tie.Need-returns
 returns c =
     let x = c.before.before.before.before.before.before.before.before.before.before.before.before.before.before.args in
-    ap (λ (y : Ran). result y.answer y.whole) c.before.before.before.before.before.before.before.run.ensures ∙ run-one (whole x.s (lent x.mem.now x.dev.now) x.journal.now)
+    ap (λ (y : Ran). result_of y.answer y.whole) c.before.before.before.before.before.before.before.run.ensures ∙ run-one (whole x.s (lent x.mem.now x.dev.now) x.journal.now)
 
 pub step_spec : {M : Type 1} → statement M
 step_spec = tie.close (tie.spec run-requires same_length same-length-2 same-length-3 returns)

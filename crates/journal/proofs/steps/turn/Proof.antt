@@ -15,7 +15,7 @@ use Rattle.records.specs.Slots.{room}
 use Rattle.journal.specs.declared.State.{State}
 use Rattle.journal.specs.States.{whole, state, valid}
 use Rattle.journal.specs.Turns.{Going, state_of, going_from, going_after}
-use Rattle.journal.specs.Step.{result, is_accepted, record_of, advanced, noted}
+use Rattle.journal.specs.Step.{result_of, is_accepted, record_of, advanced, noted}
 use Rattle.journal.proofs.StateLaws.{valid-held, valid-next}
 use Rattle.journal.proofs.TakenLaws.{plan_of, step-not, step-made, made-valid}
 use borrow.Author.Rules.{rules}
@@ -49,7 +49,7 @@ returns c =
     let u = c.unmoved.ensures in
     let y = whole (state_of (going_after x.g.now c.unmoved.result) x.mode x.map) b j in
     let h : y ≡ w = ap (λ (g : Going). whole (state_of g x.mode x.map) b j) u.1 in
-    (ap (λ (a : StepAnswer). result (answered a) y) u.0 ∙ ap (result (answered c.before.before.before.move-of.result.answer)) h ∙ ap (λ (p : Planned). result p.answer w) e ∙ sym (step-not w v f), ap (λ (g : Going). valid (state_of g x.mode x.map) x.dev.now j) u.1 ∙ v)
+    (ap (λ (a : StepAnswer). result_of (answered a) y) u.0 ∙ ap (result_of (answered c.before.before.before.move-of.result.answer)) h ∙ ap (λ (p : Planned). result_of p.answer w) e ∙ sym (step-not w v f), ap (λ (g : Going). valid (state_of g x.mode x.map) x.dev.now j) u.1 ∙ v)
 
 note-requires : tie.Need-note-requires
 note-requires c κs =

@@ -1,6 +1,6 @@
 -- A value goes into the register, a refusal ends the step. Assumes nothing.
 use mathlib.Core.Path.{◌∙◌}
-use Rattle.machine.specs.Acts.{result}
+use Rattle.machine.specs.Acts.{result_of}
 use Rattle.machine.specs.Plan.{finished}
 use borrow.Author.Rules.{rules}
 use Rattle.machine.proofs.plans.settle.Statement.{statement}
@@ -19,11 +19,11 @@ refused-requires : tie.Need-refused-requires
 refused-requires c κs = search rules
 
 returns : tie.Need-returns
-unfolding result
+unfolding result_of
 returns c = c.go_on.ensures ∙ rw c.before.before.x.given.1
 
 returns-2 : tie.Need-returns-2
-unfolding result finished
+unfolding result_of finished
 returns-2 c = c.refused.ensures ∙ rw c.before.before.x2.given.1
 
 pub settle-spec : {M : Type 1} → statement M
