@@ -1,0 +1,8 @@
+-- Nothing has moved. Assumes nothing.
+use Rattle.machine.specs.Plan.{refusal}
+use borrow.Author.Rules.{rules}
+use Rattle.machine.proofs.plans.refused.Goals as goal
+
+pub returns : goal.returns
+unfolding refusal
+returns c = c.unmoved.ensures

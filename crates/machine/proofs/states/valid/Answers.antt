@@ -1,0 +1,8 @@
+-- The tables decide. Assumes nothing.
+use Rattle.machine.specs.States.{valid}
+use borrow.Author.Rules.{rules}
+use Rattle.machine.proofs.states.valid.Goals as goal
+
+pub returns : goal.returns
+unfolding valid
+returns c = c.valid.ensures
