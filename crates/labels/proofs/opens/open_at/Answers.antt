@@ -22,7 +22,6 @@ module _ (places lengths words references : List ℕ) (i : ℕ) (inside : i < le
   in-references : i < length references
   in-references = omega (arith, inside, opens-in-references places lengths words references)
 
-
 pub bounds-references-i : goal.bounds-references-i
 bounds-references-i c = in-references c.args.places.now c.args.lengths.now c.args.words.now c.args.references.now c.args.i (omega (arith, c.open_room.ensures, c.if-i-open_room.true))
 
