@@ -9,21 +9,12 @@ use Rattle.machine.specs.declared.Registers.{Registers}
 use Rattle.machine.proofs.RegisterLaws.{get-as, put-get}
 use Rattle.journal.specs.Turns.{Going}
 use borrow.Author.Rules.{rules}
-use Rattle.journal.proofs.steps.unmoved.Statement.{statement}
-use Rattle.journal.proofs.steps.unmoved.Tie as tie
+use Rattle.journal.proofs.steps.unmoved.Goals as goal
 
-element-copy-out-pc : tie.Need-element-copy-out-pc
-element-copy-out-pc c = search rules
-
-returns : tie.Need-returns
-returns c =
-    let x = c.before.args in
-    let s = regs x.g.now in
-    let v = get_or x.g.now 5 0 in
-    let e : v ≡ get s PC = sym (get-as x.g.now PC) in
+pub returns : goal.returns
+returns c = let s = regs c.args.g.now in
+    let v = get_or c.args.g.now 5 0 in
+    let e : v ≡ get s PC = sym (get-as c.args.g.now PC) in
     let f : put (put s PC v) PC v ≡ s = ap (λ (y : ℕ). put (put s PC y) PC y) e ∙ ap (λ (t : Registers). put t PC (get s PC)) (put-get s PC) ∙ put-get s PC in
-    let going : Registers → Going = λ t. record { registers = t; next = x.ring.next; held = x.ring.held } in
+    let going : Registers → Going = λ t. record { registers = t; next = c.args.ring.next; held = c.args.ring.held } in
     (refl, ap going f)
-
-pub unmoved-spec : {M : Type 1} → statement M
-unmoved-spec = tie.close (tie.spec element-copy-out-pc returns)

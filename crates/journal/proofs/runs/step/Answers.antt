@@ -1,0 +1,21 @@
+-- A run of one step answers and leaves what the step does. Assumes nothing.
+use mathlib.Core.Path.{ap, ◌∙◌}
+use Rattle.memory.specs.Bytes.{lent}
+use Rattle.journal.specs.States.{whole}
+use Rattle.journal.specs.Step.{result_of}
+use Rattle.journal.specs.Run.{Ran}
+use Rattle.journal.proofs.RunTurns.{run-one}
+use borrow.Author.Rules.{rules}
+use Rattle.journal.proofs.runs.step.Goals as goal
+
+pub shape_of-mem : goal.shape_of-mem
+shape_of-mem c = c.run-r.auto.mem
+
+pub shape_of-dev : goal.shape_of-dev
+shape_of-dev c = c.run-r.auto.dev
+
+pub shape_of-journal : goal.shape_of-journal
+shape_of-journal c = c.run-r.auto.journal
+
+pub returns : goal.returns
+returns c = ap (λ (y : Ran). result_of y.answer y.whole) c.run-r.ensures ∙ run-one (whole c.args.s (lent c.args.mem.now c.args.dev.now) c.args.journal.now)
