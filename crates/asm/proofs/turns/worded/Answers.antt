@@ -1,0 +1,10 @@
+-- Each arm is a row of the definition. Assumes nothing.
+use borrow.Author.Rules.{rules}
+use Rattle.asm.specs.Views.{added}
+use Rattle.asm.proofs.turns.worded.Goals as goal
+
+pub returns-in-Next : goal.returns-in-Next
+returns-in-Next c = rw c.in-Next.is
+
+pub returns-in-Refused : goal.returns-in-Refused
+returns-in-Refused c = rw c.in-Refused.is
