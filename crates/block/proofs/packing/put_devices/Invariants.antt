@@ -1,0 +1,18 @@
+-- So far the first n entries are written. Assumes nothing.
+use Prim.Native.Nat.{◌-◌, ◌<◌, ◌≤◌}
+use mathlib.Core.Path.{◌≡◌, refl, ◌∙◌}
+use lib.ListN.{length, take}
+use lib.Seq.{sets, take_all}
+use native.Mathlib.Omega.{arith}
+use Rattle.wordbytes.specs.Words.{bytes_of}
+use Rattle.map.specs.Entries.{device}
+use Rattle.block.specs.Block.{device_words}
+use Rattle.block.proofs.Tables.{device_table, table-start, table-next}
+use borrow.Author.Rules.{rules}
+use Rattle.block.proofs.packing.put_devices.Given as goal
+
+abbrev pub invariant-loop-n : goal.invariant-loop-n
+invariant-loop-n l = (l.n ≤ 8) × (length l.block ≡ length l.initial.block) × (l.block ≡ sets l.initial.block l.i (bytes_of (device_words (take l.n l.table))))
+
+abbrev pub decreases-loop-n : goal.decreases-loop-n
+decreases-loop-n l = 8 - l.n

@@ -1,0 +1,6 @@
+-- An entry is two words. Assumes nothing.
+use borrow.Author.Rules.{rules}
+use Rattle.block.proofs.unpacking.device_at.Goals as goal
+
+pub returns : goal.returns
+returns c = rw (c.word_at.ensures, c.word_at-2.ensures)
