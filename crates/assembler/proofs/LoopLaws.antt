@@ -16,9 +16,7 @@ use Rattle.asm.specs.Reading.{read}
 use Rattle.asm.specs.Views.{EndedWith, Within, ended, label_count, labels_in, turned, waiting_count, waiting_in, word_count, words_in, work_of}
 use Rattle.asm.specs.Work.{Task, Work, nothing, task, turn}
 use Rattle.asm.specs.declared.Assembled.{Assembled}
-use Rattle.asm.specs.declared.Assembled.TheVariants as Assembled
 use Rattle.asm.specs.declared.Turn.{Turn}
-use Rattle.asm.specs.declared.Turn.TheVariants as Turn
 use Rattle.reader.proofs.LineLaws.{after-line, line-inside, lines_at}
 use Rattle.assembler.specs.Turns.{counts_of, ended_at, goes_on, none, start_of}
 use Rattle.base.specs.Choice.{cond}

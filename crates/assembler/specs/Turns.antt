@@ -3,7 +3,6 @@ use Rattle.std.specs.Prelude.{ℕ, Bool, false, eqb}
 use Rattle.base.specs.Choice.{cond}
 use Rattle.base.specs.declared.refusals.Refusal.TheVariants.{NotAscii}
 use Rattle.asm.specs.declared.Assembled.{Assembled}
-use Rattle.asm.specs.declared.Assembled.TheVariants as Assembled
 use Rattle.asm.specs.declared.Counts.{Counts}
 use Rattle.asm.specs.declared.Turn.{Turn}
 use Rattle.asm.specs.declared.Turn.TheVariants.{Go, Refused}

@@ -35,8 +35,7 @@ fn load_words(
 }
 
 // Loads a program: 31, 1, 16, 14, 15, 13. 15 and 13 keep what was stored and the emptied journal.
-#[unsafe(no_mangle)]
-pub extern "C" fn kettle_load(
+pub fn kettle_load(
     block: &mut [u8],
     memory: &mut [u8],
     devices: &mut [u8],
@@ -61,8 +60,7 @@ pub extern "C" fn kettle_load(
 }
 
 // Reads size bytes from start on into the buffer: 31, 1, 12, 19, then how many there are before the first unmapped one.
-#[unsafe(no_mangle)]
-pub extern "C" fn kettle_read(
+pub fn kettle_read(
     block: &[u8],
     memory: &[u8],
     devices: &[u8],

@@ -8,8 +8,7 @@ use block::{is_block, pack, unpack};
 use numbers::{bad_block, of_answer, of_run, of_step};
 
 // One step, recorded: 31, 1, then the machine's own answer.
-#[unsafe(no_mangle)]
-pub extern "C" fn kettle_step(
+pub fn kettle_step(
     block: &mut [u8],
     memory: &mut [u8],
     devices: &mut [u8],
@@ -29,8 +28,7 @@ pub extern "C" fn kettle_step(
 }
 
 // At most so many steps: 31, 1, then the last step's answer, and how many were accepted.
-#[unsafe(no_mangle)]
-pub extern "C" fn kettle_run(
+pub fn kettle_run(
     block: &mut [u8],
     memory: &mut [u8],
     devices: &mut [u8],
@@ -51,8 +49,7 @@ pub extern "C" fn kettle_run(
 }
 
 // Takes the newest record back: 31, 1, 10, 11.
-#[unsafe(no_mangle)]
-pub extern "C" fn kettle_step_back(
+pub fn kettle_step_back(
     block: &mut [u8],
     memory: &mut [u8],
     devices: &mut [u8],
@@ -72,8 +69,7 @@ pub extern "C" fn kettle_step_back(
 }
 
 // Empties the journal: 31, 1. Its bytes stay.
-#[unsafe(no_mangle)]
-pub extern "C" fn kettle_forget(block: &mut [u8], devices: &[u8], journal: &[u8]) -> u64
+pub fn kettle_forget(block: &mut [u8], devices: &[u8], journal: &[u8]) -> u64
     ensures value { result ≡ number_in block.old (λ s. forget_number s devices.now journal.now) }
     ensures block_after { block.new ≡ block_after block.old (λ s. forgotten s devices.now journal.now) }
 {

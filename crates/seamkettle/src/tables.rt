@@ -7,8 +7,7 @@ use block::{is_block, pack, unpack};
 use numbers::{bad_block, narrow_len, narrow_start, of_answer};
 
 // Sets register `number` of A to FLAGS, from 0: 31, 1, 18.
-#[unsafe(no_mangle)]
-pub extern "C" fn kettle_set_register(
+pub fn kettle_set_register(
     block: &mut [u8],
     devices: &[u8],
     journal: &[u8],
@@ -30,8 +29,7 @@ pub extern "C" fn kettle_set_register(
 }
 
 // Protects the addresses from start on, len of them: 31, 1, 12, 13, 14.
-#[unsafe(no_mangle)]
-pub extern "C" fn kettle_protect(
+pub fn kettle_protect(
     block: &mut [u8],
     devices: &[u8],
     journal: &[u8],
@@ -55,8 +53,7 @@ pub extern "C" fn kettle_protect(
 }
 
 // A new device over the addresses from start on, size of them: 31, 1, 12, 13, 14, 17.
-#[unsafe(no_mangle)]
-pub extern "C" fn kettle_device(
+pub fn kettle_device(
     block: &mut [u8],
     devices: &[u8],
     journal: &[u8],

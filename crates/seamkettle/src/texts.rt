@@ -54,8 +54,7 @@ fn assemble_bytes(rules: Rules, text: &[u8], words: &mut [u8], own: &mut [u16]) 
 
 // Assembles a text into words, plainly for strict = 0: 31, then a refusal and its line, or how many words, open references and
 // labels there are. Words that are not used are zero, all of them on a refusal but 31.
-#[unsafe(no_mangle)]
-pub extern "C" fn kettle_assemble(text: &[u8], strict: u8, words: &mut [u8]) -> u64
+pub fn kettle_assemble(text: &[u8], strict: u8, words: &mut [u8]) -> u64
     ensures value { result ≡ assemble_number (not (eqb strict 0)) text.now words.old }
     ensures words_after { words.new ≡ assembled_words (not (eqb strict 0)) text.now words.old }
 {
@@ -71,8 +70,7 @@ pub extern "C" fn kettle_assemble(text: &[u8], strict: u8, words: &mut [u8]) -> 
 }
 
 // The listing of a text: 19, or how long it is.
-#[unsafe(no_mangle)]
-pub extern "C" fn kettle_list(text: &[u8], out: &mut [u8]) -> u64
+pub fn kettle_list(text: &[u8], out: &mut [u8]) -> u64
     ensures value { result ≡ listed_number (listed text.now (length out.old)) }
     ensures out_after { out.new ≡ listed_buffer text.now out.old }
 {
@@ -80,8 +78,7 @@ pub extern "C" fn kettle_list(text: &[u8], out: &mut [u8]) -> u64
 }
 
 // What a word says, as the listing has it: 4 to 6, 19, or how long it is.
-#[unsafe(no_mangle)]
-pub extern "C" fn kettle_print(word: u16, out: &mut [u8]) -> u64
+pub fn kettle_print(word: u16, out: &mut [u8]) -> u64
     ensures value { result ≡ listed_number (word_next word (length out.old)) }
     ensures out_after { out.new ≡ word_buffer word out.old }
 {
@@ -90,8 +87,7 @@ pub extern "C" fn kettle_print(word: u16, out: &mut [u8]) -> u64
 
 // Assembly text for words, which assembles plainly to the very same words: 31, 16, 33 with the index of the lowest word that no line
 // gives, 19, or how long it is.
-#[unsafe(no_mangle)]
-pub extern "C" fn kettle_text(words: &[u8], out: &mut [u8]) -> u64
+pub fn kettle_text(words: &[u8], out: &mut [u8]) -> u64
     ensures value { result ≡ sourced_number (byte_answer words.now (length out.old)) }
     ensures out_after { out.new ≡ byte_buffer words.now out.old }
 {

@@ -3,8 +3,7 @@
 ghost use Rattle.std.specs.Prelude.{◌≡◌};
 ghost use Rattle.seamkettle.specs.Calls.{version};
 
-#[unsafe(no_mangle)]
-pub extern "C" fn kettle_version() -> u32
+pub fn kettle_version() -> u32
     ensures { result ≡ version }
 {
     400
