@@ -2,14 +2,13 @@
 use mathlib.Core.Path.{◌≡◌, refl}
 use mathlib.Core.Bool.{true}
 use mathlib.Core.List.{List}
-use Prim.Native.Nat.{ℕ, ◌-◌, ◌≤◌, ◌<◌, zero-le}
+use Prim.Native.Nat.{ℕ, ◌≤◌, ◌<◌, zero-le}
 use native.Mathlib.Omega.{arith}
 use borrow.Author.Tests.{le-leb, lt-leb}
 use lib.ListN.{length, take}
 use Rattle.base.specs.Numbers.{number_of}
 use Rattle.base.specs.declared.refusals.Refusal.TheVariants.{NoRoom}
 use Rattle.asm.specs.declared.Assembled.{Assembled}
-use Rattle.asm.specs.declared.Assembled.TheVariants as Assembled
 use Rattle.asm.specs.Work.{task}
 use Rattle.asm.specs.Assemble.{Outcome, accepted, refused, assemble, words_of, filled, report, reported}
 use Rattle.asm.proofs.FillLaws.{filled-first, filled-length}

@@ -2,7 +2,6 @@
 use Rattle.std.specs.Prelude.{ℕ, ◌≤◌, ◌≡◌, List, ◌++◌, length, take}
 use Rattle.base.specs.Numbers.{number_of}
 use Rattle.asm.specs.declared.Assembled.{Assembled}
-use Rattle.asm.specs.declared.Assembled.TheVariants as Assembled
 use Rattle.asm.specs.Assemble.{Outcome, words_of, report, reported}
 use Rattle.lister.specs.Listing.{lines_from, totals, refusal}
 
