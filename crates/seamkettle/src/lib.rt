@@ -11,5 +11,5 @@ mod version;
 pub use programs::{kettle_load, kettle_read};
 pub use steps::{kettle_forget, kettle_run, kettle_step, kettle_step_back};
 pub use tables::{kettle_device, kettle_protect, kettle_set_register};
-pub use texts::{kettle_assemble, kettle_list, kettle_print};
+pub use texts::{kettle_assemble, kettle_list, kettle_print, kettle_text};
 pub use version::kettle_version;
