@@ -29,27 +29,22 @@ def first_line(*command):
     return subprocess.run(command, stdout=subprocess.PIPE, text=True, check=True).stdout.splitlines()[0]
 
 
-def build_ours(folder, crate, above, uses, wrote):
+def build_ours(folder, crate, uses):
     """Proves and builds the program of `folder`/main.rattle as a crate in a copy of the repository: it is no crate of the
-    repository itself. `above` is the crate that it stands on, `uses` all that it names, `wrote` what it writes on no input."""
-    call("rt", "check", above)
+    repository itself. `uses` is all that it names."""
     copy = MADE / "ours"
     shutil.rmtree(copy, ignore_errors=True)
-    shutil.copytree(ROOT / "crates", copy / "crates")
-    # what was just proved is not proved again
-    for part in ("rlib", "stamp"):
-        shutil.copytree(ROOT / "target" / part, copy / "target" / part)
+    shutil.copytree(ROOT / "crates", copy / "crates", ignore=shutil.ignore_patterns("out"))
     (copy / "crates.txt").write_text(f"{(ROOT / 'crates.txt').read_text()}{crate}: {uses}\n")
     made = copy / "crates" / crate
     (made / "src").mkdir(parents=True)
     shutil.copy(folder / "main.rattle", made / "src" / "main.rt")
-    for proof in folder.glob("*.proof"):
+    for proof in folder.glob("*.invariants"):
         (made / "proofs" / proof.stem).mkdir(parents=True)
-        shutil.copy(proof, made / "proofs" / proof.stem / "Proof.antt")
+        shutil.copy(proof, made / "proofs" / proof.stem / "Invariants.antt")
     # rt runs it on an empty input
-    (made / "stdout").write_text(wrote)
-    call("rt", "check", crate, cwd=copy)
-    return copy / "target" / "bin" / crate
+    call("rt", "run", "--cpu", "x86-64", cwd=made)
+    return made / "out" / crate
 
 
 def rustc():
@@ -86,10 +81,3 @@ def run(command, given):
 
 def on_x86_64(program):
     return [ROOT / "tools" / "on-x86-64", program]
-
-
-def by_kit(program):
-    """The same on an x86-64 machine, with nothing in between but the kit's loader."""
-    kit = pathlib.Path(first_line("rt", "doc")).resolve().parent.parent
-    libraries = kit / "on" / platform.machine() / "toolchain" / "lib"
-    return [libraries / "ld-linux-x86-64.so.2", "--library-path", libraries, program]
