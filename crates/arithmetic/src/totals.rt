@@ -5,6 +5,7 @@ ghost use Rattle.arithmetic.specs.Totals.{total, fitted, sum, difference, produc
 use crate::Total;
 use base::Refusal;
 
+#[tactic(auto, unfolding(crate::specs::Totals::fitted))]
 fn fit(n: u32) -> Total
     ensures { total result ≡ fitted n }
 {

@@ -11,7 +11,6 @@ use Rattle.asm.specs.Reading.{Item, skip, label, says, refers, told_item}
 use Rattle.asm.specs.declared.Assembled.{Assembled}
 use Rattle.asm.specs.declared.Assembled.TheVariants.{Accepted, Refused}
 use Rattle.asm.specs.declared.Line.{Line}
-use Rattle.asm.specs.declared.Line.TheVariants as Line
 
 refusal-numbers : (n k line at : ℕ) → refusal n line ≡ refusal k at → n ≡ k
 refusal-numbers n k line at e = cc

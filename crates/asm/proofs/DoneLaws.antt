@@ -25,8 +25,6 @@ use Rattle.asm.specs.declared.Counts.{Counts}
 use Rattle.asm.specs.declared.Line.{Line}
 use Rattle.asm.specs.declared.Turn.{Turn}
 use Rattle.asm.specs.declared.words.Added.{Added}
-use Rattle.asm.specs.declared.Line.TheVariants as Line
-use Rattle.asm.specs.declared.Turn.TheVariants as Turn
 
 module _ (strict : Bool) (text : List ℕ) (at : ℕ) (line : Line) (f : Found) (most : ℕ) (n : Counts) (words : List ℕ) (waiting : List Open) where
   -- with this answer, and these words and open references after it, the line has done what it says

@@ -21,7 +21,6 @@ use Rattle.labels.specs.declared.Label.{Label}
 use Rattle.labels.specs.declared.Found.{Found}
 use Rattle.labels.specs.declared.Found.TheVariants.{Nothing, At}
 use Rattle.asm.specs.declared.labelling.Defined.{Defined}
-use Rattle.asm.specs.declared.labelling.Defined.TheVariants as Defined
 
 defined-used : (d : Defined) (labels : List Label) → defined d labels ≡ ◌>>=◌ (used d) (λ n. is (take n labels))
 defined-used (Defined.Count n) labels = refl

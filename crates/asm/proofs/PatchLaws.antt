@@ -24,7 +24,6 @@ use Rattle.labels.specs.Opens.{no_open, opens_of, reference_code}
 use Rattle.parser.specs.References.{resolved}
 use Rattle.labels.specs.declared.Open.{Open}
 use Rattle.asm.specs.declared.patching.Left.{Left}
-use Rattle.asm.specs.declared.patching.Left.TheVariants as Left
 
 pub opens-stored : (ps ls ws rs ps' ls' ws' rs' : List ℕ) (i : ℕ) (o : Open) → ps' ≡ set ps i o.place → ls' ≡ set ls i o.length → ws' ≡ set ws i o.word.0 →
     rs' ≡ set rs i (reference_code o.reference) → opens_of ps' ls' ws' rs' ≡ set (opens_of ps ls ws rs) i o

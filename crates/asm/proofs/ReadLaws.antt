@@ -7,7 +7,6 @@ use mathlib.Core.Path.{◌≡◌, refl}
 use native.Mathlib.Omega.{arith}
 use Rattle.asm.specs.Reading.{name_in, read_trimmed, said, skip}
 use Rattle.base.specs.Told.{is}
-use Rattle.labels.specs.Labels.{label}
 use Rattle.parser.specs.Parse.{parse}
 use Rattle.text.specs.Tokens.{tokens}
 use Rattle.asm.specs.Reading as Reading

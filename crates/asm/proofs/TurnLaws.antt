@@ -26,8 +26,6 @@ use Rattle.labels.specs.declared.Found.TheVariants.{Nothing, At}
 use Rattle.asm.specs.declared.Counts.{Counts}
 use Rattle.asm.specs.declared.words.Added.{Added}
 use Rattle.asm.specs.declared.patching.Left.{Left}
-use Rattle.asm.specs.declared.words.Added.TheVariants as Added
-use Rattle.asm.specs.declared.patching.Left.TheVariants as Left
 
 -- one word more, the other two parts of the work as they were
 module _ (n : Counts) (words words' : List ℕ) (labels : List Label) (waiting : List Open) where

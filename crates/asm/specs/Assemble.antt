@@ -8,7 +8,6 @@ use Rattle.labels.specs.declared.Label.{Label}
 use Rattle.asm.specs.Reading.{read}
 use Rattle.asm.specs.Work.{Task, task, Work, nothing, turn}
 use Rattle.asm.specs.declared.Assembled.{Assembled}
-use Rattle.asm.specs.declared.Assembled.TheVariants as Assembled
 
 -- how it ends: with the work done, or with a number and the line, from 1, that was being read
 pub data Outcome : Type 0 where

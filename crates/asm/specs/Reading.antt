@@ -11,7 +11,6 @@ use Rattle.parser.specs.Answers.{Meaning}
 use Rattle.parser.specs.Parse.{parse}
 use Rattle.parser.specs.Answers as Parse
 use Rattle.asm.specs.declared.Line.{Line}
-use Rattle.asm.specs.declared.Line.TheVariants as Line
 
 pub data Item : Type 0 where
   skip : Item

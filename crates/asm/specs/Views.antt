@@ -17,18 +17,12 @@ use Rattle.asm.specs.Labels.{part, Patched, patched_of}
 use Rattle.asm.specs.Work.{Work, work}
 use Rattle.asm.specs.Assemble.{Outcome, accepted, refused, report, reported, words_of, labels_left}
 use Rattle.asm.specs.declared.Assembled.{Assembled}
-use Rattle.asm.specs.declared.Assembled.TheVariants as Assembled
 use Rattle.asm.specs.declared.words.Added.{Added}
-use Rattle.asm.specs.declared.words.Added.TheVariants as Added
 use Rattle.asm.specs.declared.labelling.Defined.{Defined}
-use Rattle.asm.specs.declared.labelling.Defined.TheVariants as Defined
 use Rattle.asm.specs.declared.patching.Left.{Left}
-use Rattle.asm.specs.declared.patching.Left.TheVariants as Left
 use Rattle.asm.specs.declared.Line.{Line}
-use Rattle.asm.specs.declared.Line.TheVariants as Line
 use Rattle.asm.specs.declared.Counts.{Counts}
 use Rattle.asm.specs.declared.Turn.{Turn}
-use Rattle.asm.specs.declared.Turn.TheVariants as Turn
 
 -- the words after an answer
 abbrev pub added : Added → List ℕ → Told (List ℕ)

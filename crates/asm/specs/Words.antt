@@ -1,5 +1,5 @@
 -- The word of an instruction, plain or strict, and its place in the output.
-use Rattle.std.specs.Prelude.{ℕ, ◌+◌, List, [], ◌∷◌, ◌++◌, Bool, not, ◌&&◌, ltb, length}
+use Rattle.std.specs.Prelude.{ℕ, List, [], ◌∷◌, ◌++◌, Bool, not, ◌&&◌, ltb, length}
 use Rattle.base.specs.Choice.{cond}
 use Rattle.base.specs.Numbers.{number_of}
 use Rattle.base.specs.Order.{Refusing, ◌when◌, passing}

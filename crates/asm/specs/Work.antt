@@ -1,6 +1,6 @@
 -- What a line does to the words, labels and open references so far.
 use Rattle.std.specs.Prelude.{ℕ, ◌+◌, List, [], Bool, length}
-use Rattle.base.specs.Told.{Told, is, no, ◌>>=◌}
+use Rattle.base.specs.Told.{Told, is, ◌>>=◌}
 use Rattle.base.specs.Words.{doubled}
 use Rattle.instruction.specs.declared.Instruction.{Instruction}
 use Rattle.parser.specs.declared.Reference.{Reference}
@@ -14,7 +14,7 @@ use Rattle.labels.specs.Opens.{open_to}
 use Rattle.asm.specs.Reading.{Item}
 use Rattle.asm.specs.Reading as Reading
 use Rattle.asm.specs.Words.{add_word, add_instruction}
-use Rattle.asm.specs.Labels.{part, define, add_open, patch, Patched}
+use Rattle.asm.specs.Labels.{part, define, add_open, patch}
 
 -- what stays the same from line to line: the rule, the text, the room for words and for labels
 pub record Task : Type 0 where

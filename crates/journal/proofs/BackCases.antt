@@ -8,7 +8,7 @@ use Rattle.journal.specs.States.{Whole, whole, state, valid_whole}
 use Rattle.journal.specs.Back.{backed, used_by, fits, restored, newest, with, undone, step_back}
 use Rattle.journal.specs.declared.Used.{Used}
 use Rattle.journal.specs.declared.Used.TheVariants.{Unknown}
-use Rattle.journal.proofs.BackLaws.{fitting, back-unfit, back-undone}
+use Rattle.journal.proofs.BackLaws.{back-unfit, back-undone}
 
 -- a kind that is none of the three
 pub kind-unknown : (n : ℕ) → (n ≡ 0 → ⊥) → (n ≡ 1 → ⊥) → (n ≡ 2 → ⊥) → used_by n ≡ Unknown

@@ -1,12 +1,12 @@
 -- What the crates above may use of the two tables, without opening the definitions: what is found is the first entry with the name,
 -- and storing a field in each flat list is storing an open reference. Assumes nothing.
 use Prim.Native.Nat.{ℕ, zero, suc, ◌+◌, ◌≤◌, ◌<◌, min}
-use mathlib.Core.Path.{◌≡◌, refl, sym, ap, ◌∙◌}
+use mathlib.Core.Path.{◌≡◌, refl, ap, ◌∙◌}
 use mathlib.Core.Bool.{true, false}
-use mathlib.Core.List.{List, [], ◌∷◌, ◌++◌, map}
+use mathlib.Core.List.{List, [], ◌∷◌, ◌++◌}
 use native.Mathlib.Nat.{le_of_suc-le-suc, not-suc-le-zero}
 use native.Mathlib.Omega.{arith}
-use lib.ListN.{length, get_or, take, drop, set, replicate}
+use lib.ListN.{length, get_or, take, drop, set}
 use Rattle.parser.specs.declared.Reference.{Reference}
 use Rattle.parser.specs.declared.Reference.TheVariants.{Jmp, CondJmp, Call}
 use Rattle.labels.specs.declared.Label.{Label}
@@ -14,7 +14,7 @@ use Rattle.labels.specs.declared.Open.{Open}
 use Rattle.labels.specs.declared.Found.TheVariants.{Nothing, At}
 use Rattle.labels.specs.Labels.{label, is_named, find}
 use Rattle.labels.specs.Opens.{reference_code, reference_of, open_to, no_open, opens_of}
-use Rattle.labels.proofs.ListLaws.{take-set, take_snoc, drop-next}
+use Rattle.labels.proofs.ListLaws.{take_snoc, drop-next}
 use Rattle.labels.proofs.FindLaws.{found, found-address, passed}
 
 -- ---- the first of equal names counts

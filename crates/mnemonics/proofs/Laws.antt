@@ -7,7 +7,6 @@ use mathlib.Core.List.{List, [], ◌∷◌, map}
 use Rattle.base.specs.Bytes.{same}
 use Rattle.base.specs.Choice.{cond}
 use Rattle.mnemonics.specs.declared.Mnemonic.{Mnemonic}
-use Rattle.mnemonics.specs.declared.Kind.{Kind}
 use Rattle.mnemonics.specs.declared.Kind.TheVariants.{Unknown}
 use Rattle.mnemonics.specs.Mnemonics.{rows, name_of, upper, kind_in, kind_of}
 use Rattle.mnemonics.proofs.Columns.{kinds}

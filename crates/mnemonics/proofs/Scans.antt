@@ -13,7 +13,6 @@ use Rattle.base.specs.Bytes.{same}
 use Rattle.base.proofs.SameLaws.{same-lengths}
 use Rattle.base.proofs.Tests.{and_left, and_right}
 use Rattle.mnemonics.specs.declared.Mnemonic.{Mnemonic}
-use Rattle.mnemonics.specs.declared.Kind.{Kind}
 use Rattle.mnemonics.specs.declared.Kind.TheVariants.{Unknown}
 use Rattle.mnemonics.specs.Mnemonics.{rows, upper}
 use Rattle.mnemonics.specs.Tables.{first_row}

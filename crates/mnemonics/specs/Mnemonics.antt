@@ -1,5 +1,5 @@
 -- The thirty mnemonics, and the kind of a token: that of the row whose name the token is, in either case.
-use Rattle.std.specs.Prelude.{ℕ, ◌-◌, Bool, true, false, ◌&&◌, List, [], ◌∷◌, map, leb, length, take}
+use Rattle.std.specs.Prelude.{ℕ, ◌-◌, true, false, ◌&&◌, List, [], ◌∷◌, map, leb, length, take}
 use Rattle.base.specs.Bytes.{bytes, same}
 use Rattle.base.specs.Choice.{cond}
 use Rattle.instruction.specs.declared.ArithOp.TheVariants as four

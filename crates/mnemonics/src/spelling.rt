@@ -7,6 +7,7 @@ use crate::rows::table;
 use crate::{Kind, Mnemonic};
 
 // A letter in upper case; any other byte as it is.
+#[tactic(auto, unfolding(crate::specs::Mnemonics::upper))]
 fn upper_case(b: u8) -> u8
     ensures { result ≡ upper b }
 {

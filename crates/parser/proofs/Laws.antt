@@ -3,16 +3,15 @@ use Prim.Native.Nat.{ℕ}
 use mathlib.Core.Path.{◌≡◌, refl, sym, ap}
 use mathlib.Core.List.{List, [], ◌∷◌}
 use mathlib.Core.Logic.{◌⊎◌}
-use native.Mathlib.Omega.{arith}
 use Rattle.base.specs.Numbers.{number_of}
-use Rattle.base.specs.Told.{Told, is, no}
+use Rattle.base.specs.Told.{no}
 use Rattle.base.proofs.Laws.{number-one}
-use Rattle.base.proofs.ToldLaws.{is-not-no, is_one, no_one}
+use Rattle.base.proofs.ToldLaws.{is-not-no, no_one}
 use Rattle.parser.specs.declared.Parsed.{Parsed}
 use Rattle.parser.specs.declared.Parsed.TheVariants.{Is, Refers, Refused}
-use Rattle.parser.specs.Answers.{Meaning, says, refers, told}
+use Rattle.parser.specs.Answers.{says, refers, told}
 use Rattle.parser.specs.Parse.{parse}
-use Rattle.parser.proofs.NumberLaws.{Fair, parse-fair}
+use Rattle.parser.proofs.NumberLaws.{parse-fair}
 
 -- a blank line is 23
 pub parse-blank : parse [] ≡ no 23

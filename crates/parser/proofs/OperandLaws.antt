@@ -11,7 +11,6 @@ use Rattle.base.specs.Told.{Told, is, no, ◌>>=◌}
 use Rattle.mnemonics.specs.Mnemonics.{kind_of}
 use Rattle.text.specs.Parts.{is_blank}
 use Rattle.text.specs.Tokens.{starts_word, cons_head, tokens, first, token_at}
-use Rattle.parser.specs.Answers.{Meaning}
 use Rattle.parser.specs.Operands.{nth, starts}
 use Rattle.parser.specs.Parse.{takes, meaning, parse}
 

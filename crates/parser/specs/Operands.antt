@@ -1,5 +1,5 @@
 -- How an operand is read. Operands are read from left to right, and the first that is refused gives its number to the line.
-use Rattle.std.specs.Prelude.{ℕ, zero, suc, List, [], ◌∷◌, Bool, true, false, eqb, leb, length, take}
+use Rattle.std.specs.Prelude.{ℕ, zero, suc, List, [], ◌∷◌, Bool, false, eqb, leb, length, take}
 use Rattle.base.specs.Bytes.{bytes, same}
 use Rattle.base.specs.Choice.{cond}
 use Rattle.base.specs.Told.{Told, is, no, ◌>>=◌}

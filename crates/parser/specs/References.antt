@@ -2,7 +2,6 @@
 use Rattle.std.specs.Prelude.{ℕ, false}
 use Rattle.instruction.specs.declared.Operand.TheVariants.{Imm}
 use Rattle.instruction.specs.declared.Instruction.{Instruction}
-use Rattle.instruction.specs.declared.Instruction.TheVariants as Instruction
 use Rattle.parser.specs.declared.Reference.{Reference}
 use Rattle.parser.specs.declared.Reference.TheVariants.{Jmp, CondJmp, Call}
 

@@ -1,6 +1,5 @@
 -- A power of 2 is no 0, so neither the quotient nor the remainder fails, and they are the definition's. Assumes nothing.
 use lib.Pow.{pow_pos}
-use borrow.Author.Rules.{rules}
 use Rattle.fields.proofs.field.Goals as goal
 
 pub nonzero_div-result : goal.nonzero_div-result

@@ -1,6 +1,5 @@
 -- Each comparison is the definition's test. Assumes nothing.
 use Rattle.arithmetic.specs.Compares.{compare}
-use borrow.Author.Rules.{rules}
 use Rattle.arithmetic.proofs.compares.compare.Goals as goal
 
 pub returns-in-Eq : goal.returns-in-Eq

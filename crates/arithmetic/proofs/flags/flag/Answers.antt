@@ -1,6 +1,5 @@
 -- The bit is a field of width 1. Assumes nothing.
 use Rattle.arithmetic.specs.Flags.{flag}
-use borrow.Author.Rules.{rules}
 use Rattle.arithmetic.proofs.flags.flag.Goals as goal
 
 pub returns : goal.returns

@@ -1,6 +1,5 @@
 -- Each operator calls its function. Assumes nothing.
 use Rattle.arithmetic.specs.Operators.{arith_result}
-use borrow.Author.Rules.{rules}
 use Rattle.arithmetic.proofs.operators.arith.Goals as goal
 
 pub returns-in-Add : goal.returns-in-Add

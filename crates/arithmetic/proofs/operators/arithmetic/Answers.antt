@@ -1,6 +1,5 @@
 -- Each operator calls its function. Assumes nothing.
 use Rattle.arithmetic.specs.Operators.{arithmetic_result}
-use borrow.Author.Rules.{rules}
 use Rattle.arithmetic.proofs.operators.arithmetic.Goals as goal
 
 pub returns-in-Add : goal.returns-in-Add

@@ -1,6 +1,6 @@
 -- The root lies from lo on and below hi; where they are neighbours, it is lo. Assumes nothing.
 use mathlib.Core.Path.{◌≡◌}
-use Prim.Native.Nat.{◌+◌, ◌-◌, ◌*◌, ◌/◌, ◌<◌, ◌≤◌, zero-le}
+use Prim.Native.Nat.{◌+◌, ◌/◌, ◌<◌, zero-le}
 use native.Mathlib.Omega.{arith}
 use Rattle.arithmetic.proofs.Products.{below}
 use Rattle.arithmetic.proofs.Laws.{root-one}

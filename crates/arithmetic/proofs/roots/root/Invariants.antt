@@ -1,10 +1,5 @@
 -- The root lies from lo on and below hi; where they are neighbours, it is lo. Assumes nothing.
-use mathlib.Core.Path.{◌≡◌}
-use Prim.Native.Nat.{◌+◌, ◌-◌, ◌*◌, ◌/◌, ◌<◌, ◌≤◌, zero-le}
-use native.Mathlib.Omega.{arith}
-use Rattle.arithmetic.proofs.Products.{below}
-use Rattle.arithmetic.proofs.Laws.{root-one}
-use borrow.Author.Rules.{rules}
+use Prim.Native.Nat.{◌-◌, ◌*◌, ◌<◌, ◌≤◌}
 use Rattle.arithmetic.proofs.roots.root.Given as goal
 
 abbrev pub invariant-loop-hi : goal.invariant-loop-hi

@@ -1,6 +1,5 @@
 -- The immediate's bits are set in the number that was shifted. Assumes nothing.
 use Rattle.arithmetic.specs.Shifts.{moved}
-use borrow.Author.Rules.{rules}
 use Rattle.arithmetic.proofs.shifts.moved.Goals as goal
 
 pub returns : goal.returns

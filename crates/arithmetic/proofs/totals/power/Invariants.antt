@@ -1,11 +1,6 @@
 -- What is multiplied so far is a power of i units, and once it is too large so is the whole. Assumes nothing.
-use mathlib.Core.Path.{◌≡◌, sym, ap, ◌∙◌}
+use mathlib.Core.Path.{◌≡◌}
 use Prim.Native.Nat.{◌-◌, ◌^◌, ◌≤◌}
-use native.Mathlib.Nat.{pow-zero}
-use native.Mathlib.Omega.{arith}
-use Rattle.arithmetic.specs.Totals.{total}
-use Rattle.arithmetic.proofs.Powers.{power-more, power-stops, power-ends}
-use borrow.Author.Rules.{rules}
 use Rattle.arithmetic.proofs.totals.power.Given as goal
 
 abbrev pub invariant-loop-i : goal.invariant-loop-i

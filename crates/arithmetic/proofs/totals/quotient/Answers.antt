@@ -3,7 +3,6 @@ use mathlib.Core.Path.{◌≡◌}
 use native.Mathlib.Omega.{arith}
 use borrow.Author.Tests.{eq-eqb, ne_eqb}
 use Rattle.arithmetic.specs.Totals.{quotient}
-use borrow.Author.Rules.{rules}
 use Rattle.arithmetic.proofs.totals.quotient.Goals as goal
 
 pub returns-then-b-eq0 : goal.returns-then-b-eq0

@@ -1,6 +1,5 @@
 -- The true sum has room in 32 bits, and is fitted. Assumes nothing.
 use Rattle.arithmetic.specs.Totals.{sum}
-use borrow.Author.Rules.{rules}
 use Rattle.arithmetic.proofs.totals.sum.Goals as goal
 
 pub returns : goal.returns

@@ -1,9 +1,7 @@
 -- What is left, filled up from i on, stays the same. Assumes nothing.
 use Prim.Native.Nat.{◌-◌}
-use borrow.Author.Rules.{rules}
-use lib.ListN.{length, length-set, take}
-use mathlib.Core.Path.{◌∙◌, ◌≡◌, refl, sym}
-use Rattle.asm.proofs.FillLaws.{clear-end, clear_step}
+use lib.ListN.{length, take}
+use mathlib.Core.Path.{◌≡◌}
 use Rattle.asm.specs.Assemble.{filled}
 use Rattle.asm.proofs.clearing.clear_words.Given as goal
 

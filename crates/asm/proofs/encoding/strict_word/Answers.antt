@@ -1,6 +1,4 @@
 -- The two tests are those of the definition's order. Assumes nothing.
-use borrow.Author.Rules.{rules}
-use borrow.Author.Tests.{not-false, not-true}
 use mathlib.Core.Bool.{false, true}
 use mathlib.Core.Path.{◌∙◌, ◌≡◌, ap, sym}
 use Rattle.asm.specs.Words.{strict_order, strict_word}

@@ -1,11 +1,8 @@
 -- The rule picks the word, as it does in the definition. Assumes nothing.
-use borrow.Author.Rules.{rules}
 use mathlib.Core.Bool.{false, true}
 use mathlib.Core.Path.{◌∙◌, ◌≡◌, ap}
-use Rattle.asm.specs.Views.{left}
 use Rattle.asm.specs.Words.{word_of}
 use Rattle.base.specs.Told.{is}
-use Rattle.instruction.specs.Encode.{encode}
 use Rattle.asm.proofs.encoding.word_of.Goals as goal
 
 pub returns-then-rules : goal.returns-then-rules

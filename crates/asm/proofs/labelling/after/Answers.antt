@@ -1,6 +1,4 @@
 -- Each arm is a row of the definition. Assumes nothing.
-use borrow.Author.Rules.{rules}
-use Rattle.asm.specs.Views.{left}
 use Rattle.asm.proofs.labelling.after.Goals as goal
 
 pub returns-in-Count : goal.returns-in-Count

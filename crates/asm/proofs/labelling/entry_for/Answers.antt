@@ -5,7 +5,6 @@ use native.Mathlib.Omega.{arith}
 use Rattle.asm.specs.Reading.{end_of}
 use Rattle.asm.specs.Views.{label_for, slot_for}
 use Rattle.asm.specs.declared.Line.{Line}
-use borrow.Author.Rules.{rules}
 use Rattle.asm.proofs.labelling.entry_for.Goals as goal
 
 pub overflow_add-at : goal.overflow_add-at

@@ -2,7 +2,6 @@
 use Prim.Native.Nat.{ℕ}
 use mathlib.Core.Path.{ap}
 use Rattle.labels.specs.Labels.{label}
-use borrow.Author.Rules.{rules}
 use Rattle.asm.proofs.labelling.label_here.Goals as goal
 
 pub returns : goal.returns

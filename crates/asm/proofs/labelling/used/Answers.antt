@@ -1,7 +1,5 @@
 -- A name that was found keeps the count; a new one needs room. Assumes nothing.
-use borrow.Author.Rules.{rules}
 use borrow.Author.Tests.{le-ltb, lt-ltb}
-use Rattle.asm.specs.Views.{left}
 use Rattle.asm.proofs.labelling.used.Goals as goal
 
 pub returns-in-At : goal.returns-in-At

@@ -5,7 +5,6 @@ use lib.ListN.{take}
 use mathlib.Core.List.{List}
 use mathlib.Core.Path.{◌∙◌, ap}
 use Rattle.asm.proofs.PatchLaws.{add-open-full, add-open-next, opens-stored}
-use Rattle.asm.specs.Views.{put}
 use Rattle.base.specs.Told.{is}
 use Rattle.labels.specs.Opens.{opens_of}
 use Rattle.labels.specs.declared.Open.{Open}

@@ -1,18 +1,10 @@
 -- Those kept and those still to come, patched, are what all of them patched come to. Assumes nothing.
-use Prim.Native.Nat.{◌-◌, ◌≤◌, ℕ}
-use borrow.Author.Rules.{rules}
+use Prim.Native.Nat.{◌-◌, ◌≤◌}
 use lib.ListN.{length, take}
-use mathlib.Core.Path.{◌∙◌, ◌≡◌, ap, refl, sym}
-use native.Mathlib.Omega.{arith}
-use Rattle.asm.proofs.PatchLaws.{left-to-patch, opens-same, patch-begin, patch-end, patch-go, patch-kept, patch-stop}
+use mathlib.Core.Path.{◌≡◌}
+use Rattle.asm.proofs.PatchLaws.{left-to-patch}
 use Rattle.asm.specs.Labels.{patch}
-use Rattle.asm.specs.Views.{kept_of, patch_one, stepped}
-use Rattle.asm.specs.Work.{references}
-use Rattle.base.specs.Numbers.{number_of}
-use Rattle.base.specs.Told.{is, no}
-use Rattle.instruction.specs.Fits.{fits}
 use Rattle.labels.specs.Opens.{opens_of}
-use Rattle.asm.specs.declared.patching.Left.{Left}
 use Rattle.asm.proofs.patching.patch.Given as goal
 
 abbrev pub invariant-loop-i : goal.invariant-loop-i

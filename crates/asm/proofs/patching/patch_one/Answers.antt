@@ -1,15 +1,13 @@
 -- Where the entry waits for the name its word is put, else it is kept. Assumes nothing.
 use Prim.Native.Nat.{◌+◌}
-use borrow.Author.Rules.{rules}
 use lib.ListN.{get_or}
 use mathlib.Core.Bool.{false, true}
 use mathlib.Core.List.{List}
 use mathlib.Core.Path.{◌∙◌, ◌≡◌, ap, sym}
 use native.Mathlib.Omega.{arith}
 use Rattle.asm.proofs.PatchLaws.{opens-stored, patch-hit, patch-miss, patch-this}
-use Rattle.asm.specs.Views.{kept_of, patch_one, patch_this, put}
+use Rattle.asm.specs.Views.{kept_of, patch_one, patch_this}
 use Rattle.base.specs.Told.{is}
-use Rattle.instruction.specs.Fits.{fits}
 use Rattle.labels.specs.Labels.{names}
 use Rattle.labels.specs.Opens.{no_open, opens_of}
 use Rattle.labels.specs.declared.Open.{Open}

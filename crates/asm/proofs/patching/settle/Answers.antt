@@ -1,5 +1,4 @@
 -- The word is put where there is one. Assumes nothing.
-use borrow.Author.Rules.{rules}
 use mathlib.Core.Path.{◌∙◌, ◌≡◌, ap, sym}
 use Rattle.asm.specs.Words.{told_word, word_of}
 use Rattle.base.specs.Numbers.{number_of}

@@ -7,11 +7,8 @@ use mathlib.Core.Path.{◌∙◌, ◌≡◌, ap, sym}
 use native.Mathlib.Omega.{arith}
 use Rattle.asm.proofs.ReadLaws.{read-comment, read-label, read-said}
 use Rattle.asm.specs.Reading.{name_in, refers, said}
-use Rattle.asm.specs.Work.{says}
 use Rattle.base.specs.Numbers.{number_of}
 use Rattle.base.specs.Told.{is, no}
-use Rattle.instruction.specs.Fits.{fits}
-use Rattle.labels.specs.Labels.{label}
 use Rattle.parser.specs.Answers.{told}
 use Rattle.parser.specs.Parse.{parse}
 use Rattle.text.proofs.TokenLaws.{second_fits}

@@ -5,7 +5,7 @@ use lib.ListN.{length, take}
 use mathlib.Core.Path.{◌∙◌, ◌≡◌, ap, sym}
 use native.Mathlib.Omega.{arith}
 use Rattle.asm.proofs.TurnLaws.{left-labels, left-waiting, left-words, turn-opens, turn-opens-full}
-use Rattle.asm.specs.Views.{added, labels_in, left, left_of, left_turn, next_of, turned, waiting_in, words_in}
+use Rattle.asm.specs.Views.{added, labels_in, left_of, left_turn, next_of, turned, waiting_in, words_in}
 use Rattle.asm.specs.Words.{add_word}
 use Rattle.base.specs.Numbers.{number_of}
 use Rattle.base.specs.Told.{is, no}

@@ -10,7 +10,6 @@ use Rattle.asm.specs.Work.{opens, says, task}
 use Rattle.labels.specs.Opens.{open_to, opens_of}
 use Rattle.asm.specs.declared.Turn.{Turn}
 use Rattle.instruction.specs.declared.Instruction.{Instruction}
-use borrow.Author.Rules.{rules}
 use Rattle.asm.proofs.referring.refer.Goals as goal
 
 pub returns-in-At : goal.returns-in-At

@@ -4,7 +4,6 @@ use mathlib.Core.Path.{◌∙◌, ◌≡◌, ap, sym}
 use native.Mathlib.Omega.{arith}
 use Rattle.asm.specs.Reading.{end_of}
 use Rattle.asm.specs.Views.{name_at}
-use borrow.Author.Rules.{rules}
 use Rattle.asm.proofs.turns.name_in.Goals as goal
 
 pub overflow_add-at : goal.overflow_add-at

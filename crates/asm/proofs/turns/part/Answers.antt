@@ -3,7 +3,6 @@ use Prim.Native.Nat.{ℕ}
 use lib.ListN.{drop, take}
 use mathlib.Core.Path.{ap}
 use native.Mathlib.Nat.{add-sub_cancel_left}
-use borrow.Author.Rules.{rules}
 use Rattle.asm.proofs.turns.part.Goals as goal
 
 pub returns : goal.returns

@@ -1,6 +1,4 @@
 -- Each arm is a row of the definition. Assumes nothing.
-use borrow.Author.Rules.{rules}
-use Rattle.asm.specs.Views.{added}
 use Rattle.asm.proofs.turns.worded.Goals as goal
 
 pub returns-in-Next : goal.returns-in-Next

@@ -5,7 +5,6 @@ use lib.ListN.{length, take}
 use mathlib.Core.List.{List}
 use mathlib.Core.Path.{◌∙◌, ap, sym}
 use Rattle.asm.proofs.WordLaws.{add-word-full, add-word-most, add-word-next}
-use Rattle.asm.specs.Views.{left}
 use Rattle.base.specs.Told.{is}
 use Rattle.asm.proofs.words.add_word.Goals as goal
 

@@ -1,8 +1,6 @@
 -- An index within the output is stored at; past its end `set` changes nothing. Assumes nothing.
-use borrow.Author.Rules.{rules}
 use lib.Seq.{set_out}
 use mathlib.Core.Path.{sym}
-use Rattle.asm.specs.Views.{left}
 use Rattle.asm.proofs.words.put_word.Goals as goal
 
 pub returns-else-i-words : goal.returns-else-i-words

@@ -2,9 +2,7 @@
 use mathlib.Core.Path.{◌∙◌}
 use lib.ListN.{set, length-set}
 use native.Mathlib.Omega.{arith}
-use Rattle.map.proofs.Scans.{mapped}
 use Rattle.block.proofs.Blocks.{packed-parts}
-use Rattle.block.proofs.Laws.{Shaped}
 use borrow.Author.Rules.{rules}
 use Rattle.block.proofs.packing.pack.Goals as goal
 

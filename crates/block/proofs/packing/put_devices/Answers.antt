@@ -1,12 +1,10 @@
 -- So far the first n entries are written. Assumes nothing.
-use Prim.Native.Nat.{◌-◌, ◌<◌, ◌≤◌}
-use mathlib.Core.Path.{◌≡◌, refl, ◌∙◌}
-use lib.ListN.{length, take}
-use lib.Seq.{sets, take_all}
+use Prim.Native.Nat.{◌<◌, ◌≤◌}
+use mathlib.Core.Path.{refl, ◌∙◌}
+use lib.ListN.{length}
+use lib.Seq.{take_all}
 use native.Mathlib.Omega.{arith}
-use Rattle.wordbytes.specs.Words.{bytes_of}
 use Rattle.map.specs.Entries.{device}
-use Rattle.block.specs.Block.{device_words}
 use Rattle.block.proofs.Tables.{device_table, table-start, table-next}
 use borrow.Author.Rules.{rules}
 use Rattle.block.proofs.packing.put_devices.Goals as goal

@@ -1,14 +1,10 @@
 -- So far the first n entries are written. Assumes nothing.
-use Prim.Native.Nat.{◌-◌, ◌<◌, ◌≤◌}
-use mathlib.Core.Path.{◌≡◌, refl, ◌∙◌}
+use Prim.Native.Nat.{◌-◌, ◌≤◌}
+use mathlib.Core.Path.{◌≡◌}
 use lib.ListN.{length, take}
-use lib.Seq.{sets, take_all}
-use native.Mathlib.Omega.{arith}
+use lib.Seq.{sets}
 use Rattle.wordbytes.specs.Words.{bytes_of}
-use Rattle.map.specs.Entries.{region}
 use Rattle.block.specs.Block.{region_words}
-use Rattle.block.proofs.Tables.{region_table, table-start, table-next}
-use borrow.Author.Rules.{rules}
 use Rattle.block.proofs.packing.put_regions.Given as goal
 
 abbrev pub invariant-loop-n : goal.invariant-loop-n

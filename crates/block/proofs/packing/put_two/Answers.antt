@@ -2,7 +2,6 @@
 use mathlib.Core.Path.{◌∙◌}
 use native.Mathlib.Omega.{arith}
 use Rattle.wordbytes.proofs.Parts.{two-words}
-use borrow.Author.Rules.{rules}
 use Rattle.block.proofs.packing.put_two.Goals as goal
 
 pub put_word-requires-2 : goal.put_word-requires-2

@@ -1,5 +1,4 @@
 -- An entry is two words. Assumes nothing.
-use borrow.Author.Rules.{rules}
 use Rattle.block.proofs.unpacking.device_at.Goals as goal
 
 pub returns : goal.returns

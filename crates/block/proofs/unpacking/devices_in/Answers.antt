@@ -1,6 +1,5 @@
 -- Eight entries stand four bytes apart. Assumes nothing.
 use Rattle.block.specs.Block.{devices_from}
-use borrow.Author.Rules.{rules}
 use Rattle.block.proofs.unpacking.devices_in.Goals as goal
 
 pub returns : goal.returns

@@ -1,7 +1,6 @@
 -- The length is tested first, then the byte at 16. Assumes nothing.
 use borrow.Author.Tests.{eq-eqb, ne_eqb}
 use Rattle.block.specs.Block.{is_block}
-use borrow.Author.Rules.{rules}
 use Rattle.block.proofs.unpacking.is_block.Goals as goal
 
 pub returns-then-block-ne87 : goal.returns-then-block-ne87

@@ -1,5 +1,4 @@
 -- The three parts are the definition's. Assumes nothing.
-use borrow.Author.Rules.{rules}
 use Rattle.block.proofs.unpacking.machine_in.Goals as goal
 
 pub returns : goal.returns

@@ -1,5 +1,4 @@
 -- Counts and tables stand where the definition takes them from. Assumes nothing.
-use borrow.Author.Rules.{rules}
 use Rattle.block.proofs.unpacking.map_in.Goals as goal
 
 pub returns : goal.returns

@@ -1,5 +1,4 @@
 -- An entry is two words. Assumes nothing.
-use borrow.Author.Rules.{rules}
 use Rattle.block.proofs.unpacking.region_at.Goals as goal
 
 pub returns : goal.returns

@@ -1,7 +1,6 @@
 -- Eight words stand two bytes apart. Assumes nothing.
 use mathlib.Core.Path.{sym}
 use Rattle.wordbytes.proofs.Parts.{words-eight}
-use borrow.Author.Rules.{rules}
 use Rattle.block.proofs.unpacking.registers_in.Goals as goal
 
 pub returns : goal.returns

@@ -1,6 +1,5 @@
 -- A machine and two words after it. Assumes nothing.
 use Rattle.block.specs.Block.{unpacked}
-use borrow.Author.Rules.{rules}
 use Rattle.block.proofs.unpacking.unpack.Goals as goal
 
 pub returns : goal.returns

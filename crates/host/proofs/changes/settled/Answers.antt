@@ -2,7 +2,6 @@
 use mathlib.Core.Path.{refl, sym, ◌∙◌}
 use Rattle.host.specs.Host.{settled}
 use Rattle.host.proofs.AnswerLaws.{settled-refused}
-use borrow.Author.Rules.{rules}
 use Rattle.host.proofs.changes.settled.Goals as goal
 
 pub returns-in-Accepted : goal.returns-in-Accepted

@@ -1,12 +1,10 @@
 -- Past the test of the whole state the call below decides. Assumes nothing.
 use mathlib.Core.Path.{◌≡◌, sym, ap, ◌∙◌}
 use mathlib.Core.Bool.{true, false}
-use borrow.Author.Tests.{not-true, not-false}
 use Rattle.base.specs.Numbers.{answer_number}
 use Rattle.journal.specs.States.{valid}
 use Rattle.host.specs.Host.{settled, protect_number, protect_state}
 use Rattle.host.proofs.Below.{protect-number, protect-state}
-use borrow.Author.Rules.{rules}
 use Rattle.host.proofs.entries.protect.Goals as goal
 
 pub returns-then-not-valid : goal.returns-then-not-valid

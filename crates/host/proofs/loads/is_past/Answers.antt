@@ -3,7 +3,6 @@ use mathlib.Core.Path.{◌≡◌, sym, ◌∙◌}
 use borrow.Author.Tests.{ne_eqb}
 use Rattle.base.specs.Numbers.{number_of}
 use Rattle.host.specs.Host.{past}
-use borrow.Author.Rules.{rules}
 use Rattle.host.proofs.loads.is_past.Goals as goal
 
 pub returns-in-Accepted : goal.returns-in-Accepted

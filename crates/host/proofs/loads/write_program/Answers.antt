@@ -1,13 +1,11 @@
 -- Past the test of the whole state memory loads, and its answer says whether it began. Assumes nothing.
 use mathlib.Core.Path.{◌≡◌, sym, ap, ◌∙◌}
 use mathlib.Core.Bool.{true, false}
-use borrow.Author.Tests.{not-true, not-false}
 use Rattle.memory.specs.Bytes.{lent}
 use Rattle.memory.specs.Program as memory
 use Rattle.journal.specs.States.{valid}
 use Rattle.host.specs.Host.{past, begins, load_number, load_state, load_bytes}
 use Rattle.host.proofs.Below.{load-number, load-map, load-bytes, begins-past}
-use borrow.Author.Rules.{rules}
 use Rattle.host.proofs.loads.write_program.Goals as goal
 
 pub returns-then-not-valid : goal.returns-then-not-valid

@@ -1,7 +1,6 @@
 -- Past the test of the whole state memory reads out. Assumes nothing.
 use mathlib.Core.Path.{◌≡◌, sym, ◌∙◌}
 use mathlib.Core.Bool.{true, false}
-use borrow.Author.Tests.{not-true, not-false}
 use Rattle.journal.specs.States.{valid}
 use Prim.Native.Nat.{ℕ}
 use native.Mathlib.Omega.{arith}
@@ -10,7 +9,6 @@ use Rattle.memory.specs.Bytes.{lent}
 use Rattle.memory.proofs.Orders.{counting-none, copying-none}
 use Rattle.host.specs.Host.{read_number, read_out, read_out_buffer}
 use Rattle.host.proofs.Below.{read-out, read-buffer}
-use borrow.Author.Rules.{rules}
 use Rattle.host.proofs.reads.read_out.Goals as goal
 
 pub returns-then-not-valid : goal.returns-then-not-valid

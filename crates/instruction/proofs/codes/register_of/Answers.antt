@@ -3,7 +3,6 @@ use mathlib.Core.Path.{refl}
 use Rattle.instruction.proofs.CodeLaws.{last}
 use Rattle.instruction.specs.Codes.{registers}
 use Rattle.instruction.specs.declared.Register.TheVariants.{FLAGS}
-use borrow.Author.Rules.{rules}
 use Rattle.instruction.proofs.codes.register_of.Goals as goal
 
 pub returns-in_default : goal.returns-in_default

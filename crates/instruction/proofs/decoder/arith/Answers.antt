@@ -1,5 +1,4 @@
 -- Each field is the one that the table's arm has. Assumes nothing.
-use borrow.Author.Rules.{rules}
 use Rattle.instruction.specs.Decode.{arm, arms}
 use Rattle.instruction.proofs.decoder.arith.Goals as goal
 

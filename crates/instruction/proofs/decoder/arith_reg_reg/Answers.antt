@@ -1,7 +1,6 @@
 -- An operator below 7 is the list's, and 7 is refused, as in the table's arm. Assumes nothing.
 use borrow.Author.Tests.{lt-ltb, le-ltb}
 use Rattle.instruction.specs.Decode.{arm, arms}
-use borrow.Author.Rules.{rules}
 use Rattle.instruction.proofs.decoder.arith_reg_reg.Goals as goal
 
 pub returns-then-k-lt7 : goal.returns-then-k-lt7

@@ -1,5 +1,4 @@
 -- The field is compared with 1, as the definition has it. Assumes nothing.
-use borrow.Author.Rules.{rules}
 use Rattle.instruction.proofs.decoder.bit_at.Goals as goal
 
 pub returns : goal.returns

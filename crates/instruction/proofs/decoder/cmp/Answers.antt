@@ -1,7 +1,6 @@
 -- A comparison below 6 is the list's, and the others are refused, as in the table's arm. Assumes nothing.
 use borrow.Author.Tests.{lt-ltb, le-ltb}
 use Rattle.instruction.specs.Decode.{arm, arms}
-use borrow.Author.Rules.{rules}
 use Rattle.instruction.proofs.decoder.cmp.Goals as goal
 
 pub returns-then-k-lt6 : goal.returns-then-k-lt6

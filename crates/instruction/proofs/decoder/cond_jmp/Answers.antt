@@ -1,7 +1,6 @@
 -- The operand's form picks the instruction, as it does in the definition. Assumes nothing.
 use mathlib.Core.Path.{sym, ◌∙◌}
 use Rattle.instruction.specs.Decode.{arm, arms}
-use borrow.Author.Rules.{rules}
 use Rattle.instruction.proofs.decoder.cond_jmp.Goals as goal
 
 pub returns-then-jumps_always : goal.returns-then-jumps_always

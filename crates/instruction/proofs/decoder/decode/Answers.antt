@@ -2,7 +2,6 @@
 use Rattle.base.specs.Told.{no}
 use Rattle.base.proofs.Matches.{default}
 use Rattle.instruction.specs.Decode.{arms, arm, decode}
-use borrow.Author.Rules.{rules}
 use Rattle.instruction.proofs.decoder.decode.Goals as goal
 
 pub returns-in-0 : goal.returns-in-0

@@ -1,6 +1,5 @@
 -- Each field is the one that the table's arm has. Assumes nothing.
 use Rattle.instruction.specs.Decode.{arm, arms}
-use borrow.Author.Rules.{rules}
 use Rattle.instruction.proofs.decoder.mov_shift.Goals as goal
 
 pub returns : goal.returns

@@ -1,5 +1,4 @@
 -- The mode bit picks the register or the immediate, as it does in the definition. Assumes nothing.
-use borrow.Author.Rules.{rules}
 use Rattle.instruction.proofs.decoder.operand_at.Goals as goal
 
 pub returns-then-bit_at : goal.returns-then-bit_at

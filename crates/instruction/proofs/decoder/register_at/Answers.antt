@@ -1,7 +1,6 @@
 -- The register of the field's number is the definition's. Assumes nothing.
 use mathlib.Core.Path.{◌∙◌, ap}
 use Rattle.instruction.specs.Codes.{register_of}
-use borrow.Author.Rules.{rules}
 use Rattle.instruction.proofs.decoder.register_at.Goals as goal
 
 pub returns : goal.returns

@@ -1,5 +1,4 @@
 -- Each edition has its own decoder. Assumes nothing.
-use borrow.Author.Rules.{rules}
 use Rattle.instruction.specs.Editions.{decode_in}
 use Rattle.instruction.proofs.editions.decode_in.Goals as goal
 

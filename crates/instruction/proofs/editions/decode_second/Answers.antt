@@ -1,6 +1,5 @@
 -- The code's test of the low four bits is the definition's. Assumes nothing.
 use borrow.Author.Tests.{ne_eqb}
-use borrow.Author.Rules.{rules}
 use Rattle.instruction.specs.Editions.{decode_in}
 use Rattle.instruction.proofs.editions.decode_second.Goals as goal
 

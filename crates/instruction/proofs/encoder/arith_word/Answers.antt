@@ -1,5 +1,4 @@
 -- Each field is placed as the definition has it, and the fields do not meet, so that their sum is a word. Assumes nothing.
-use borrow.Author.Rules.{rules}
 use Rattle.instruction.proofs.encoder.arith_word.Goals as goal
 
 pub returns : goal.returns

@@ -1,7 +1,6 @@
 -- Each arm's word is the definition's for the instruction that the arm was taken for. Assumes nothing.
 use mathlib.Core.Path.{◌∙◌, sym, ap}
 use Rattle.instruction.specs.Encode.{encode}
-use borrow.Author.Rules.{rules}
 use Rattle.instruction.proofs.encoder.encode.Goals as goal
 
 pub returns-in-Mov : goal.returns-in-Mov

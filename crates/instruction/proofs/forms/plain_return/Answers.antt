@@ -1,5 +1,4 @@
 -- Each branch is the definition's case. Assumes nothing.
-use borrow.Author.Rules.{rules}
 use Rattle.instruction.proofs.forms.plain_return.Goals as goal
 
 pub returns-then-ret : goal.returns-then-ret

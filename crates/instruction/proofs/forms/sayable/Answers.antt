@@ -1,5 +1,4 @@
 -- Each arm is the definition's clause. Assumes nothing.
-use borrow.Author.Rules.{rules}
 use Rattle.instruction.proofs.forms.sayable.Goals as goal
 
 pub returns-in-CallRet : goal.returns-in-CallRet

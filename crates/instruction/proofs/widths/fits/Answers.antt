@@ -1,7 +1,6 @@
 -- Each arm tests the widths of the instruction that the arm was taken for. Assumes nothing.
 use mathlib.Core.Path.{◌∙◌, sym, ap}
 use Rattle.instruction.specs.Fits.{fits}
-use borrow.Author.Rules.{rules}
 use Rattle.instruction.proofs.widths.fits.Goals as goal
 
 pub returns-in-Mov : goal.returns-in-Mov

@@ -1,7 +1,6 @@
 -- A register fits, and an immediate is held to its width. Assumes nothing.
 use mathlib.Core.Path.{◌∙◌, sym, ap}
 use Rattle.instruction.specs.Fits.{operand_fits}
-use borrow.Author.Rules.{rules}
 use Rattle.instruction.proofs.widths.operand_fits.Goals as goal
 
 pub returns-in-Imm : goal.returns-in-Imm

@@ -2,7 +2,6 @@
 use mathlib.Core.Path.{◌≡◌, ◌∙◌, sym, ap}
 use mathlib.Core.Bool.{Bool, true, false, ◌&&◌}
 use Rattle.instruction.specs.Fits.{within}
-use borrow.Author.Rules.{rules}
 use Rattle.instruction.proofs.widths.shift_fits.Goals as goal
 
 pub returns-then-has_width : goal.returns-then-has_width

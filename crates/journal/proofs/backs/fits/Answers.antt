@@ -1,10 +1,8 @@
 -- Each kind's arm asks what the definition asks of it, the second address first. Assumes nothing.
 use mathlib.Core.Path.{◌≡◌, sym, ◌∙◌}
 use mathlib.Core.Bool.{true, false}
-use borrow.Author.Tests.{not-true, not-false}
 use Rattle.memory.specs.Bytes.{lent, takes}
 use Rattle.journal.specs.Back.{fits}
-use borrow.Author.Rules.{rules}
 use Rattle.journal.proofs.backs.fits.Goals as goal
 
 pub returns-then-not-takes_byte : goal.returns-then-not-takes_byte

@@ -1,8 +1,6 @@
 -- The test decides between the emptied journal and 1. Assumes nothing.
 use mathlib.Core.Path.{sym, ◌∙◌}
-use borrow.Author.Tests.{not-true, not-false}
 use Rattle.journal.specs.Back.{forget_number, forgotten}
-use borrow.Author.Rules.{rules}
 use Rattle.journal.proofs.backs.forget.Goals as goal
 
 pub returns-then-not-valid : goal.returns-then-not-valid

@@ -1,7 +1,6 @@
 -- Each kind's arm stores what the definition stores, the second byte before the first. Assumes nothing.
 use mathlib.Core.Path.{◌∙◌}
 use Rattle.journal.specs.Back.{restored}
-use borrow.Author.Rules.{rules}
 use Rattle.journal.proofs.backs.restore.Goals as goal
 
 pub returns-in-Neither : goal.returns-in-Neither

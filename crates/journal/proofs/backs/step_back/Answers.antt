@@ -2,7 +2,6 @@
 use mathlib.Core.Path.{◌≡◌, sym, ◌∙◌}
 use mathlib.Core.Bool.{true, false}
 use native.Mathlib.Omega.{arith}
-use borrow.Author.Tests.{not-true, not-false}
 use Prim.Native.Nat.{◌<◌}
 use Rattle.memory.specs.Bytes.{lent}
 use Rattle.records.specs.Slots.{room}
@@ -12,7 +11,6 @@ use Rattle.journal.specs.Back.{newest}
 use Rattle.journal.proofs.StateLaws.{held_next}
 use Rattle.journal.proofs.BackLaws.{back-invalid, back_none}
 use Rattle.journal.proofs.BackCases.{back-bad, back_done}
-use borrow.Author.Rules.{rules}
 use Rattle.journal.proofs.backs.step_back.Goals as goal
 
 pub returns-then-not-valid : goal.returns-then-not-valid

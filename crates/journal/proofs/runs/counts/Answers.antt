@@ -2,7 +2,6 @@
 use mathlib.Core.Path.{sym, ◌∙◌}
 use native.Mathlib.Omega.{arith}
 use Rattle.journal.specs.Run.{counts}
-use borrow.Author.Rules.{rules}
 use Rattle.journal.proofs.runs.counts.Goals as goal
 
 pub returns-then-is_accepted : goal.returns-then-is_accepted

@@ -1,6 +1,5 @@
 -- One case for each answer. Assumes nothing.
 use Rattle.journal.specs.Run.{goes_on}
-use borrow.Author.Rules.{rules}
 use Rattle.journal.proofs.runs.goes_on.Goals as goal
 
 pub returns-in-Continue : goal.returns-in-Continue

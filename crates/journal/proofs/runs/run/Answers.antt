@@ -1,21 +1,16 @@
 -- With k steps behind it, what is left of n steps gives the whole run's answer, k more counted; and the state stays valid. Assumes nothing.
 use mathlib.Core.Path.{◌≡◌, refl, sym, ap, ◌∙◌}
 use mathlib.Core.Bool.{true, false}
-use Prim.Native.Nat.{◌-◌, ◌≤◌}
 use native.Mathlib.Omega.{arith}
-use lib.ListN.{length}
-use borrow.Author.Tests.{not-true, not-false}
 use Rattle.machine.specs.Answers.{answered}
 use Rattle.memory.specs.Bytes.{lent}
-use Rattle.journal.specs.declared.State.{State}
 use Rattle.journal.specs.States.{Whole, whole, valid}
 use Rattle.journal.specs.Step.{result_of, step}
 use Rattle.journal.specs.Turns.{Going, state_of, going_from}
-use Rattle.journal.specs.Run.{goes_on, repeated, run}
+use Rattle.journal.specs.Run.{goes_on, run}
 use Rattle.records.proofs.Laws.{room-length}
 use Rattle.journal.proofs.TurnLaws.{stored}
-use Rattle.journal.proofs.RunTurns.{counted, begun, ended, goes-on, ends}
-use borrow.Author.Rules.{rules}
+use Rattle.journal.proofs.RunTurns.{begun, ended, goes-on, ends}
 use Rattle.journal.proofs.runs.run.Goals as goal
 
 pub returns-then-not-valid : goal.returns-then-not-valid

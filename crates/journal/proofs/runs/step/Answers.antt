@@ -5,7 +5,6 @@ use Rattle.journal.specs.States.{whole}
 use Rattle.journal.specs.Step.{result_of}
 use Rattle.journal.specs.Run.{Ran}
 use Rattle.journal.proofs.RunTurns.{run-one}
-use borrow.Author.Rules.{rules}
 use Rattle.journal.proofs.runs.step.Goals as goal
 
 pub shape_of-mem : goal.shape_of-mem

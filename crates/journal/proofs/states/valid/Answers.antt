@@ -3,11 +3,9 @@ use mathlib.Core.Path.{◌≡◌, sym, ◌∙◌}
 use mathlib.Core.Bool.{true}
 use Prim.Native.Nat.{◌<◌, ◌≤◌}
 use native.Mathlib.Omega.{arith}
-use borrow.Author.Tests.{not-true, not-false}
 use Rattle.machine.specs.States as machine
 use Rattle.records.specs.Slots.{room}
 use Rattle.journal.proofs.StateLaws.{invalid-tables, invalid-held, valid-empty, valid-room}
-use borrow.Author.Rules.{rules}
 use Rattle.journal.proofs.states.valid.Goals as goal
 
 pub returns-then-not-valid : goal.returns-then-not-valid

@@ -1,6 +1,5 @@
 -- One case for each answer. Assumes nothing.
 use Rattle.journal.specs.Step.{is_accepted}
-use borrow.Author.Rules.{rules}
 use Rattle.journal.proofs.steps.is_accepted.Goals as goal
 
 pub returns-in-Continue : goal.returns-in-Continue

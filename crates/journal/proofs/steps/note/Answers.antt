@@ -6,7 +6,6 @@ use lib.Dec.{eqb}
 use borrow.Author.Tests.{ne_eqb}
 use Rattle.records.specs.Slots.{filled}
 use Rattle.journal.specs.Step.{advanced, noted}
-use borrow.Author.Rules.{rules}
 use Rattle.journal.proofs.steps.note.Goals as goal
 
 pub returns-then-d-eq0 : goal.returns-then-d-eq0

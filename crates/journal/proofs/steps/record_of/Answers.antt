@@ -1,6 +1,5 @@
 -- One case for each number of stored bytes. Assumes nothing.
 use Rattle.journal.specs.Step.{record_of}
-use borrow.Author.Rules.{rules}
 use Rattle.journal.proofs.steps.record_of.Goals as goal
 
 pub returns-in-Nothing : goal.returns-in-Nothing

@@ -1,7 +1,6 @@
 -- The byte is read at the place of the change. Assumes nothing.
 use mathlib.Core.Path.{sym, ◌∙◌}
 use Rattle.journal.specs.Step.{byte_of, replaced}
-use borrow.Author.Rules.{rules}
 use Rattle.journal.proofs.steps.replaced.Goals as goal
 
 pub returns-in-Byte : goal.returns-in-Byte

@@ -3,7 +3,6 @@ use mathlib.Core.Path.{◌≡◌, refl, sym, ap, ◌∙◌}
 use mathlib.Core.Bool.{true, false}
 use Prim.Native.Nat.{ℕ, ◌<◌, ◌≤◌, max}
 use native.Mathlib.Omega.{arith}
-use borrow.Author.Tests.{not-true, not-false}
 use Rattle.machine.specs.Answers.{answered}
 use Rattle.machine.specs.Moves.{regs, moved_by}
 use Rattle.machine.specs.Plan.{Planned}
@@ -18,7 +17,6 @@ use Rattle.journal.specs.Turns.{Going, state_of, going_from, going_after}
 use Rattle.journal.specs.Step.{result_of, is_accepted, record_of, advanced, noted}
 use Rattle.journal.proofs.StateLaws.{valid-held, valid-next}
 use Rattle.journal.proofs.TakenLaws.{plan_of, step-not, step-made, made-valid}
-use borrow.Author.Rules.{rules}
 use Rattle.journal.proofs.steps.turn.Goals as goal
 
 pub returns-then-not-is_accepted : goal.returns-then-not-is_accepted

@@ -8,7 +8,6 @@ use Rattle.machine.specs.Registers.{get, put}
 use Rattle.machine.specs.declared.Registers.{Registers}
 use Rattle.machine.proofs.RegisterLaws.{get-as, put-get}
 use Rattle.journal.specs.Turns.{Going}
-use borrow.Author.Rules.{rules}
 use Rattle.journal.proofs.steps.unmoved.Goals as goal
 
 pub returns : goal.returns

@@ -5,7 +5,6 @@ use native.Mathlib.Omega.{arith}
 use lib.ListN.{length, take, drop}
 use Rattle.base.specs.Bytes.{same}
 use Rattle.labels.proofs.NameLaws.{names-other, names-past, names-within}
-use borrow.Author.Rules.{rules}
 use Rattle.labels.proofs.entries.names.Goals as goal
 
 pub returns-then-size-name : goal.returns-then-size-name

@@ -1,7 +1,6 @@
 -- The table is as long as the shortest of its lists. Assumes nothing.
 use mathlib.Core.Path.{◌∙◌}
 use Rattle.labels.proofs.Laws.{opens-length}
-use borrow.Author.Rules.{rules}
 use Rattle.labels.proofs.opens.open_room.Goals as goal
 
 pub returns : goal.returns

@@ -1,7 +1,6 @@
 -- Each list is stored to by one call, the last with the reference's number. Assumes nothing.
 use mathlib.Core.Path.{ap, ◌∙◌}
 use lib.ListN.{set}
-use borrow.Author.Rules.{rules}
 use Rattle.labels.proofs.opens.put_open.Goals as goal
 
 pub returns : goal.returns

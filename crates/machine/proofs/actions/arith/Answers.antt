@@ -1,7 +1,6 @@
 -- Both numbers are read before anything is stored. Assumes nothing.
 use mathlib.Core.Path.{◌∙◌}
 use Rattle.machine.specs.Acts.{arith}
-use borrow.Author.Rules.{rules}
 use Rattle.machine.proofs.actions.arith.Goals as goal
 
 pub returns : goal.returns

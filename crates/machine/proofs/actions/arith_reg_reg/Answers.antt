@@ -1,7 +1,6 @@
 -- Both registers are read, the result is settled. Assumes nothing.
 use mathlib.Core.Path.{◌∙◌}
 use Rattle.machine.specs.Acts.{arith_reg_reg}
-use borrow.Author.Rules.{rules}
 use Rattle.machine.proofs.actions.arith_reg_reg.Goals as goal
 
 pub returns : goal.returns

@@ -2,7 +2,6 @@
 use mathlib.Core.Path.{ap, ◌∙◌}
 use Rattle.memory.specs.Words.{Decided}
 use Rattle.machine.specs.Acts.{at_old_sp}
-use borrow.Author.Rules.{rules}
 use Rattle.machine.proofs.actions.at_old_sp.Goals as goal
 
 pub returns-in-Is : goal.returns-in-Is

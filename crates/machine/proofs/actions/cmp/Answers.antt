@@ -1,7 +1,6 @@
 -- The comparison is marked in FLAGS. Assumes nothing.
 use mathlib.Core.Path.{◌∙◌}
 use Rattle.machine.specs.Acts.{cmp, marked}
-use borrow.Author.Rules.{rules}
 use Rattle.machine.proofs.actions.cmp.Goals as goal
 
 pub returns : goal.returns

@@ -1,7 +1,6 @@
 -- Of the four operators only Div stores. Assumes nothing.
 use mathlib.Core.Path.{◌∙◌}
 use Rattle.machine.specs.Acts.{kept}
-use borrow.Author.Rules.{rules}
 use Rattle.machine.proofs.actions.kept.Goals as goal
 
 pub returns-in-Add : goal.returns-in-Add

@@ -4,7 +4,6 @@ use mathlib.Core.Bool.{true, false}
 use Rattle.machine.specs.Registers.{flag}
 use Rattle.machine.specs.Acts.{kept}
 use Rattle.machine.specs.Moves.{regs}
-use borrow.Author.Rules.{rules}
 use Rattle.machine.proofs.actions.kept_by_div.Goals as goal
 
 pub returns-then-flag : goal.returns-then-flag

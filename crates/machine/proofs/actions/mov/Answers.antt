@@ -1,7 +1,6 @@
 -- The operand goes into the register. Assumes nothing.
 use mathlib.Core.Path.{◌∙◌}
 use Rattle.machine.specs.Acts.{mov}
-use borrow.Author.Rules.{rules}
 use Rattle.machine.proofs.actions.mov.Goals as goal
 
 pub returns : goal.returns

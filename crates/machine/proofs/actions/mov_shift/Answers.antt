@@ -1,7 +1,6 @@
 -- The register is shifted, and put back. Assumes nothing.
 use mathlib.Core.Path.{◌∙◌}
 use Rattle.machine.specs.Acts.{mov_shift}
-use borrow.Author.Rules.{rules}
 use Rattle.machine.proofs.actions.mov_shift.Goals as goal
 
 pub returns : goal.returns

@@ -1,6 +1,5 @@
 -- Nothing but PC changes. Assumes nothing.
 use Rattle.machine.specs.Acts.{noop}
-use borrow.Author.Rules.{rules}
 use Rattle.machine.proofs.actions.noop.Goals as goal
 
 pub returns : goal.returns

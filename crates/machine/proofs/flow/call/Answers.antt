@@ -8,7 +8,6 @@ use Rattle.machine.specs.Acts.{call}
 use Rattle.machine.specs.Plan.{finished}
 use Rattle.machine.proofs.RegisterLaws.{put-apart}
 use Rattle.machine.specs.Moves.{regs}
-use borrow.Author.Rules.{rules}
 use Rattle.machine.proofs.flow.call.Goals as goal
 
 pub returns-in-At : goal.returns-in-At

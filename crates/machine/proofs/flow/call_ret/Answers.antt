@@ -3,7 +3,6 @@ use mathlib.Core.Path.{◌∙◌}
 use Rattle.machine.specs.Acts.{call_ret}
 use Rattle.instruction.specs.declared.Register.TheVariants.{PC}
 use Rattle.machine.proofs.RegisterLaws.{put-put}
-use borrow.Author.Rules.{rules}
 use Rattle.machine.proofs.flow.call_ret.Goals as goal
 
 pub returns-then-ret : goal.returns-then-ret

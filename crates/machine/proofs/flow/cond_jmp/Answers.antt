@@ -4,7 +4,6 @@ use mathlib.Core.Bool.{true, false}
 use Rattle.machine.specs.Registers.{flag}
 use Rattle.machine.specs.Acts.{marked, jmp, cond_jmp}
 use Rattle.machine.specs.Moves.{regs}
-use borrow.Author.Rules.{rules}
 use Rattle.machine.proofs.flow.cond_jmp.Goals as goal
 
 pub returns-then-flag : goal.returns-then-flag

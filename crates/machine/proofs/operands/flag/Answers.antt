@@ -1,7 +1,6 @@
 -- The bit is asked of FLAGS. Assumes nothing.
 use mathlib.Core.Path.{◌∙◌}
 use Rattle.machine.specs.Registers.{flag}
-use borrow.Author.Rules.{rules}
 use Rattle.machine.proofs.operands.flag.Goals as goal
 
 pub returns : goal.returns

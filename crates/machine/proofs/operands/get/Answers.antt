@@ -1,6 +1,5 @@
 -- The register's number is the index. Assumes nothing.
 use Rattle.machine.specs.Registers.{get}
-use borrow.Author.Rules.{rules}
 use Rattle.machine.proofs.operands.get.Goals as goal
 
 pub returns : goal.returns

@@ -1,7 +1,6 @@
 -- One answer for each kind of operand. Assumes nothing.
 use mathlib.Core.Path.{◌∙◌}
 use Rattle.machine.specs.Registers.{operand}
-use borrow.Author.Rules.{rules}
 use Rattle.machine.proofs.operands.operand.Goals as goal
 
 pub returns-in-Reg : goal.returns-in-Reg

@@ -6,7 +6,6 @@ use Rattle.instruction.specs.declared.Register.TheVariants.{PC}
 use Rattle.machine.specs.Registers.{get, put}
 use Rattle.machine.specs.Plan.{raised, finished}
 use Rattle.machine.specs.Moves.{regs}
-use borrow.Author.Rules.{rules}
 use Rattle.machine.proofs.plans.pause_or_next.Goals as goal
 
 pub returns-in-At : goal.returns-in-At

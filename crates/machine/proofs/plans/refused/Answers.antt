@@ -1,6 +1,5 @@
 -- Nothing has moved. Assumes nothing.
 use Rattle.machine.specs.Plan.{refusal}
-use borrow.Author.Rules.{rules}
 use Rattle.machine.proofs.plans.refused.Goals as goal
 
 pub returns : goal.returns

@@ -2,7 +2,6 @@
 use mathlib.Core.Path.{◌∙◌}
 use Rattle.machine.specs.Acts.{result_of}
 use Rattle.machine.specs.Plan.{finished}
-use borrow.Author.Rules.{rules}
 use Rattle.machine.proofs.plans.settle.Goals as goal
 
 pub returns-in-Is : goal.returns-in-Is

@@ -2,7 +2,6 @@
 use mathlib.Core.Path.{◌∙◌}
 use Rattle.instruction.specs.declared.Register.TheVariants.{PC}
 use Rattle.machine.proofs.RegisterLaws.{put-get}
-use borrow.Author.Rules.{rules}
 use Rattle.machine.proofs.plans.stay.Goals as goal
 
 pub returns : goal.returns

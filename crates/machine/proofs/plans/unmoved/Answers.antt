@@ -8,7 +8,6 @@ use Rattle.machine.specs.Answers.{answered}
 use Rattle.machine.specs.Moves.{regs}
 use Rattle.machine.specs.Plan.{plans}
 use Rattle.machine.specs.Registers.{put}
-use borrow.Author.Rules.{rules}
 use Rattle.machine.proofs.plans.unmoved.Goals as goal
 
 pub returns : goal.returns

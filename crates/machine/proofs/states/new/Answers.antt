@@ -1,5 +1,4 @@
 -- It is the definition's record. Assumes nothing.
-use borrow.Author.Rules.{rules}
 use Rattle.machine.proofs.states.new.Goals as goal
 
 pub returns : goal.returns

@@ -1,8 +1,7 @@
 -- The tests stand in the definition's order. Assumes nothing.
 use mathlib.Core.Path.{sym, ◌∙◌}
-use borrow.Author.Tests.{not-true, not-false, lt-ltb, le-ltb}
+use borrow.Author.Tests.{lt-ltb, le-ltb}
 use Rattle.machine.specs.States.{set_order, set_number, with_register, set_machine}
-use borrow.Author.Rules.{rules}
 use Rattle.machine.proofs.states.set_register.Goals as goal
 
 pub returns-then-not-valid : goal.returns-then-not-valid

@@ -1,6 +1,5 @@
 -- The tables decide. Assumes nothing.
 use Rattle.machine.specs.States.{valid}
-use borrow.Author.Rules.{rules}
 use Rattle.machine.proofs.states.valid.Goals as goal
 
 pub returns : goal.returns

@@ -4,7 +4,6 @@ use Rattle.memory.specs.Bytes.{Lent}
 use Rattle.machine.specs.Answers.{answered}
 use Rattle.machine.specs.declared.Machine.{Machine}
 use Rattle.machine.specs.Step.{after, committed}
-use borrow.Author.Rules.{rules}
 use Rattle.machine.proofs.steps.commit.Goals as goal
 
 pub shape_of-mem : goal.shape_of-mem

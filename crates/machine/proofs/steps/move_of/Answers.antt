@@ -10,7 +10,6 @@ use Rattle.instruction.specs.declared.Register.TheVariants.{PC}
 use Rattle.machine.specs.Registers.{get, flag}
 use Rattle.machine.specs.Plan.{fetched, plan}
 use Rattle.machine.specs.Moves.{regs}
-use borrow.Author.Rules.{rules}
 use Rattle.machine.proofs.steps.move_of.Goals as goal
 
 pub returns-then-flag : goal.returns-then-flag

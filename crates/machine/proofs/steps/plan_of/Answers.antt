@@ -3,7 +3,6 @@ use mathlib.Core.Path.{ap, ◌∙◌}
 use Rattle.machine.specs.declared.Registers.{Registers}
 use Rattle.machine.specs.Answers.{answered}
 use Rattle.machine.specs.Plan.{plans}
-use borrow.Author.Rules.{rules}
 use Rattle.machine.proofs.steps.plan_of.Goals as goal
 
 pub returns : goal.returns

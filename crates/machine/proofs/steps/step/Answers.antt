@@ -1,8 +1,6 @@
 -- 1 comes first; then what was planned is committed. Assumes nothing.
 use mathlib.Core.Path.{sym, ◌∙◌}
-use borrow.Author.Tests.{not-true, not-false}
 use Rattle.machine.specs.Step.{step}
-use borrow.Author.Rules.{rules}
 use Rattle.machine.proofs.steps.step.Goals as goal
 
 pub returns-then-not-valid : goal.returns-then-not-valid

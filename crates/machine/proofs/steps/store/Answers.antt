@@ -1,6 +1,5 @@
 -- The register's number is its place, and PC's is 5. Assumes nothing.
 use Rattle.machine.specs.Registers.{put}
-use borrow.Author.Rules.{rules}
 use Rattle.machine.proofs.steps.store.Goals as goal
 
 pub returns : goal.returns

@@ -1,7 +1,6 @@
 -- One answer for each direction. Assumes nothing.
 use mathlib.Core.Path.{◌∙◌}
 use Rattle.machine.specs.Acts.{byte_at}
-use borrow.Author.Rules.{rules}
 use Rattle.machine.proofs.transfers.byte_at.Goals as goal
 
 pub returns-then-store : goal.returns-then-store

@@ -6,7 +6,6 @@ use Rattle.memory.specs.declared.Read.TheVariants.{Byte, Unmapped}
 use Rattle.machine.specs.Registers.{get}
 use Rattle.machine.specs.Acts.{copied, cpy, fault}
 use Rattle.machine.specs.Moves.{regs}
-use borrow.Author.Rules.{rules}
 use Rattle.machine.proofs.transfers.cpy.Goals as goal
 
 pub returns-in-Byte : goal.returns-in-Byte

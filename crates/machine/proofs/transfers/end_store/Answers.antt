@@ -2,7 +2,6 @@
 use mathlib.Core.Path.{◌∙◌}
 use Rattle.machine.specs.Acts.{fault, ended, storing}
 use Rattle.machine.specs.Plan.{finished}
-use borrow.Author.Rules.{rules}
 use Rattle.machine.proofs.transfers.end_store.Goals as goal
 
 pub returns-in-Done : goal.returns-in-Done

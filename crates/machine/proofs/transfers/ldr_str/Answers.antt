@@ -7,7 +7,6 @@ use Rattle.machine.specs.Registers.{get}
 use Rattle.machine.specs.Acts.{addressed}
 use Rattle.machine.specs.Plan.{finished}
 use Rattle.machine.specs.Moves.{regs}
-use borrow.Author.Rules.{rules}
 use Rattle.machine.proofs.transfers.ldr_str.Goals as goal
 
 pub returns-in-At : goal.returns-in-At

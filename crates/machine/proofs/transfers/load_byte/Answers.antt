@@ -1,7 +1,6 @@
 -- One answer for each case of the read. Assumes nothing.
 use mathlib.Core.Path.{◌∙◌}
 use Rattle.machine.specs.Acts.{byte_loaded}
-use borrow.Author.Rules.{rules}
 use Rattle.machine.proofs.transfers.load_byte.Goals as goal
 
 pub returns-in-Byte : goal.returns-in-Byte

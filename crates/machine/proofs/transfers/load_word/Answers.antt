@@ -2,7 +2,6 @@
 use mathlib.Core.Path.{◌∙◌}
 use Rattle.machine.specs.Acts.{word_loaded}
 use Rattle.machine.specs.Plan.{finished}
-use borrow.Author.Rules.{rules}
 use Rattle.machine.proofs.transfers.load_word.Goals as goal
 
 pub returns-in-Word : goal.returns-in-Word

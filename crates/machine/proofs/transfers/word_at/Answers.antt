@@ -1,7 +1,6 @@
 -- One answer for each direction. Assumes nothing.
 use mathlib.Core.Path.{◌∙◌}
 use Rattle.machine.specs.Acts.{word_at}
-use borrow.Author.Rules.{rules}
 use Rattle.machine.proofs.transfers.word_at.Goals as goal
 
 pub returns-then-store : goal.returns-then-store

@@ -5,7 +5,6 @@ use Rattle.fields.specs.Fields.{field_of}
 use Rattle.instruction.proofs.OpcodeLaws.{decode-arith-reg-reg, decode-bad-arith}
 use Rattle.machine.specs.Acts.{act}
 use Rattle.machine.specs.Plan.{decoded}
-use borrow.Author.Rules.{rules}
 use Rattle.machine.proofs.words.act_on_arith_reg_reg.Goals as goal
 
 pub returns-then-k-lt7 : goal.returns-then-k-lt7

@@ -5,7 +5,6 @@ use Rattle.instruction.specs.declared.Instruction.TheVariants.{Jmp, CondJmp}
 use Rattle.instruction.proofs.OpcodeLaws.{decode-cond-jmp}
 use Rattle.machine.specs.Acts.{act}
 use Rattle.machine.specs.Plan.{decoded}
-use borrow.Author.Rules.{rules}
 use Rattle.machine.proofs.words.act_on_cond_jmp.Goals as goal
 
 pub returns-then-jumps_always : goal.returns-then-jumps_always

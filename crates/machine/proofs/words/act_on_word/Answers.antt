@@ -7,7 +7,6 @@ use Rattle.instruction.proofs.OpcodeLaws.{decode-noop, decode-mov, decode-mov-sh
 use Rattle.memory.specs.Bytes.{lent}
 use Rattle.machine.specs.Acts.{act}
 use Rattle.machine.specs.Plan.{decoded}
-use borrow.Author.Rules.{rules}
 use Rattle.machine.proofs.words.act_on_word.Goals as goal
 
 pub returns-in-0 : goal.returns-in-0

@@ -1,10 +1,5 @@
 -- What is the same from letter i on is the same in all. Assumes nothing.
-use Prim.Native.Nat.{◌≤◌, ◌-◌}
-use mathlib.Core.Path.{◌≡◌, ◌∙◌, sym}
-use mathlib.Core.List.{map}
-use lib.ListN.{length, drop}
-use Rattle.base.specs.Bytes.{same}
-use Rattle.mnemonics.specs.Mnemonics.{upper}
+use mathlib.Core.Path.{◌∙◌, sym}
 use Rattle.mnemonics.proofs.Scans.{letter-alike, letter-differs, letters-end, length-differs}
 use borrow.Author.Rules.{rules}
 use Rattle.mnemonics.proofs.spelling.is_name.Goals as goal

@@ -1,12 +1,10 @@
 -- What is the same from letter i on is the same in all. Assumes nothing.
 use Prim.Native.Nat.{◌≤◌, ◌-◌}
-use mathlib.Core.Path.{◌≡◌, ◌∙◌, sym}
+use mathlib.Core.Path.{◌≡◌}
 use mathlib.Core.List.{map}
 use lib.ListN.{length, drop}
 use Rattle.base.specs.Bytes.{same}
 use Rattle.mnemonics.specs.Mnemonics.{upper}
-use Rattle.mnemonics.proofs.Scans.{letter-alike, letter-differs, letters-end, length-differs}
-use borrow.Author.Rules.{rules}
 use Rattle.mnemonics.proofs.spelling.is_name.Given as goal
 
 abbrev pub invariant-loop-i : goal.invariant-loop-i

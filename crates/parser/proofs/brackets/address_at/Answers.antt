@@ -1,5 +1,4 @@
 -- The first byte says whether the address is in brackets. Assumes nothing.
-use borrow.Author.Rules.{rules}
 use lib.ListN.{length}
 use mathlib.Core.Bool.{false, true}
 use mathlib.Core.Path.{◌∙◌, ◌≡◌, ap, sym}

@@ -1,5 +1,4 @@
 -- One test. Assumes nothing.
-use borrow.Author.Rules.{rules}
 use borrow.Author.Tests.{le-leb, lt-leb}
 use Rattle.parser.proofs.brackets.eight_bits.Goals as goal
 

@@ -1,5 +1,4 @@
 -- The register, the immediate and the amount are read one after the other. Assumes nothing.
-use borrow.Author.Rules.{rules}
 use mathlib.Core.Path.{◌∙◌, ◌≡◌, ap, sym}
 use Rattle.base.specs.Numbers.{number_of}
 use Rattle.base.specs.Told.{is, no}

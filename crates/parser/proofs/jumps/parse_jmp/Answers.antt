@@ -1,5 +1,4 @@
 -- The first byte is looked at, then the register, and what is neither is a name. Assumes nothing.
-use borrow.Author.Rules.{rules}
 use lib.ListN.{length}
 use mathlib.Core.Bool.{false, true}
 use mathlib.Core.Path.{◌∙◌, ◌≡◌, ap, sym}

@@ -1,6 +1,5 @@
 -- The tokens are counted, the first one says the kind, and the kind how many operands there may be. Assumes nothing.
 use Prim.Native.Nat.{◌-◌}
-use borrow.Author.Rules.{rules}
 use lib.ListN.{length}
 use mathlib.Core.Bool.{false, true}
 use mathlib.Core.Path.{◌∙◌, ◌≡◌, ap, sym}

@@ -1,5 +1,4 @@
 -- Each arm is a row of the definition. Assumes nothing.
-use borrow.Author.Rules.{rules}
 use mathlib.Core.Path.{◌∙◌}
 use Rattle.parser.specs.Parse.{meaning}
 use Rattle.parser.proofs.lines.parse_kind.Goals as goal

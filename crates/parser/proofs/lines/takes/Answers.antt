@@ -1,5 +1,4 @@
 -- Each arm is a row of the definition. Assumes nothing.
-use borrow.Author.Rules.{rules}
 use Rattle.parser.specs.Parse.{takes}
 use Rattle.parser.proofs.lines.takes.Goals as goal
 

@@ -1,5 +1,4 @@
 -- The first byte decides how the token is read. Assumes nothing.
-use borrow.Author.Rules.{rules}
 use mathlib.Core.Bool.{false, true}
 use mathlib.Core.Path.{◌∙◌, ◌≡◌, ap, sym}
 use Rattle.base.specs.Numbers.{number_of}

@@ -1,5 +1,4 @@
 -- The token is read where there is one. Assumes nothing.
-use borrow.Author.Rules.{rules}
 use lib.ListN.{length}
 use mathlib.Core.Path.{◌∙◌, ◌≡◌, ap, sym}
 use Rattle.parser.proofs.OperandLaws.{nth-missing, nth-there}

@@ -1,5 +1,4 @@
 -- The first byte is looked at where there is one. Assumes nothing.
-use borrow.Author.Rules.{rules}
 use mathlib.Core.Path.{sym}
 use Rattle.parser.proofs.OperandLaws.{starts_none, starts-some}
 use Rattle.parser.proofs.operands.starts.Goals as goal

@@ -1,7 +1,4 @@
 -- Each arm is a row of the definition.
-use borrow.Author.Rules.{rules}
-use Rattle.parser.proofs.references.resolved.Reads as reads
-use Rattle.parser.proofs.references.resolved.Lts as lts
 use Rattle.parser.proofs.references.resolved.Goals as goal
 
 pub returns-in-Jmp : goal.returns-in-Jmp

@@ -1,7 +1,6 @@
 -- The four digits are the definition's, in its order. Assumes nothing.
 use mathlib.Core.Path.{◌∙◌}
 use Rattle.pen.specs.Numbers.{hex}
-use borrow.Author.Rules.{rules}
 use Rattle.pen.proofs.numbers.hex.Goals as goal
 
 pub returns : goal.returns

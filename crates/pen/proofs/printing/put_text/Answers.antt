@@ -2,7 +2,6 @@
 use mathlib.Core.Path.{sym, ap, ◌∙◌}
 use native.Mathlib.Omega.{arith}
 use lib.ListN.{length}
-use borrow.Author.Rules.{rules}
 use Rattle.pen.proofs.TextLaws.{text-size, text-first, text-room}
 use Rattle.pen.proofs.printing.put_text.Goals as goal
 

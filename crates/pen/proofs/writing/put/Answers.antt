@@ -1,7 +1,6 @@
 -- Within the buffer the byte is stored, past its end it is counted, and at the last number nothing changes, as the definition has it. Assumes nothing.
 use native.Mathlib.Omega.{arith}
 use Rattle.pen.proofs.PenLaws.{put-within, put-past, put_full}
-use borrow.Author.Rules.{rules}
 use Rattle.pen.proofs.writing.put.Goals as goal
 
 pub returns-then-at-out : goal.returns-then-at-out

@@ -1,8 +1,6 @@
 -- What is left to write, from byte i on, makes the whole: a turn writes its first byte. Assumes nothing.
-use mathlib.Core.Path.{◌≡◌, refl, sym, ◌∙◌}
-use Prim.Native.Nat.{◌-◌, ◌≤◌}
-use lib.ListN.{length, drop}
-use Rattle.pen.specs.Pen.{pen, wrote}
+use mathlib.Core.Path.{refl, sym, ◌∙◌}
+use Rattle.pen.specs.Pen.{pen}
 use Rattle.pen.proofs.PenLaws.{write-more, write-no-more}
 use borrow.Author.Rules.{rules}
 use Rattle.pen.proofs.writing.put_all.Goals as goal

@@ -1,10 +1,8 @@
 -- What is left to write, from byte i on, makes the whole: a turn writes its first byte. Assumes nothing.
-use mathlib.Core.Path.{◌≡◌, refl, sym, ◌∙◌}
+use mathlib.Core.Path.{◌≡◌}
 use Prim.Native.Nat.{◌-◌, ◌≤◌}
 use lib.ListN.{length, drop}
 use Rattle.pen.specs.Pen.{pen, wrote}
-use Rattle.pen.proofs.PenLaws.{write-more, write-no-more}
-use borrow.Author.Rules.{rules}
 use Rattle.pen.proofs.writing.put_all.Given as goal
 
 abbrev pub invariant-loop-i : goal.invariant-loop-i

@@ -1,7 +1,6 @@
 -- The pieces are the definition's, in its order. Assumes nothing.
 use Rattle.printer.specs.Text.{immediate_of}
 use Rattle.printer.proofs.LineLaws.{joined}
-use borrow.Author.Rules.{rules}
 use Rattle.printer.proofs.decimals.immediate.Goals as goal
 
 pub returns : goal.returns

@@ -1,8 +1,5 @@
 -- What is added from byte i on makes the line that all of the bytes make. Assumes nothing.
-use mathlib.Core.Path.{◌≡◌, refl, sym, ◌∙◌}
-use Prim.Native.Nat.{◌-◌, ◌≤◌}
-use lib.ListN.{length, drop}
-use Rattle.printer.specs.Line.{added}
+use mathlib.Core.Path.{refl, sym, ◌∙◌}
 use Rattle.printer.proofs.LineLaws.{add-one-more, add-no-more}
 use borrow.Author.Rules.{rules}
 use Rattle.printer.proofs.lines.add.Goals as goal

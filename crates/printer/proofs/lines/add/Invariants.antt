@@ -1,10 +1,8 @@
 -- What is added from byte i on makes the line that all of the bytes make. Assumes nothing.
-use mathlib.Core.Path.{◌≡◌, refl, sym, ◌∙◌}
+use mathlib.Core.Path.{◌≡◌}
 use Prim.Native.Nat.{◌-◌, ◌≤◌}
 use lib.ListN.{length, drop}
 use Rattle.printer.specs.Line.{added}
-use Rattle.printer.proofs.LineLaws.{add-one-more, add-no-more}
-use borrow.Author.Rules.{rules}
 use Rattle.printer.proofs.lines.add.Given as goal
 
 abbrev pub invariant-loop-i : goal.invariant-loop-i

@@ -1,7 +1,6 @@
 -- The code's test for room is the definition's. Assumes nothing.
 use borrow.Author.Tests.{lt-ltb, le-ltb}
 use Rattle.printer.specs.Line.{pushed, added}
-use borrow.Author.Rules.{rules}
 use Rattle.printer.proofs.lines.push.Goals as goal
 
 pub returns-then-n-ge32 : goal.returns-then-n-ge32

@@ -1,6 +1,5 @@
 -- Each arm adds the definition's name of what the arm was taken for. Assumes nothing.
 use Rattle.printer.specs.Text.{arithmetic_name}
-use borrow.Author.Rules.{rules}
 use Rattle.printer.proofs.names.arithmetic_name.Goals as goal
 
 pub returns-in-Add : goal.returns-in-Add

@@ -1,6 +1,5 @@
 -- Each arm adds the definition's name of what the arm was taken for. Assumes nothing.
 use Rattle.printer.specs.Text.{compare_name}
-use borrow.Author.Rules.{rules}
 use Rattle.printer.proofs.names.compare_name.Goals as goal
 
 pub returns-in-Eq : goal.returns-in-Eq

@@ -1,6 +1,5 @@
 -- Each arm adds the definition's name of what the arm was taken for. Assumes nothing.
 use Rattle.printer.specs.Text.{register_name}
-use borrow.Author.Rules.{rules}
 use Rattle.printer.proofs.names.register.Goals as goal
 
 pub returns-in-A : goal.returns-in-A

@@ -1,6 +1,5 @@
 -- Each branch adds the definition's name of its case. Assumes nothing.
 use Rattle.printer.specs.Text.{shift_name}
-use borrow.Author.Rules.{rules}
 use Rattle.printer.proofs.names.shift_name.Goals as goal
 
 pub returns-then-left : goal.returns-then-left

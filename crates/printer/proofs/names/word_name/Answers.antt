@@ -1,6 +1,5 @@
 -- Each branch adds the definition's name of its case. Assumes nothing.
 use Rattle.printer.specs.Text.{word_name}
-use borrow.Author.Rules.{rules}
 use Rattle.printer.proofs.names.word_name.Goals as goal
 
 pub returns-then-store : goal.returns-then-store

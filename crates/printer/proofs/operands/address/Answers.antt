@@ -2,7 +2,6 @@
 use borrow.Author.Tests.{eq-eqb, ne_eqb}
 use Rattle.printer.specs.Text.{address_of}
 use Rattle.printer.proofs.LineLaws.{joined}
-use borrow.Author.Rules.{rules}
 use Rattle.printer.proofs.operands.address.Goals as goal
 
 pub returns-then-shift-eq0 : goal.returns-then-shift-eq0

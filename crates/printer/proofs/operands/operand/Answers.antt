@@ -1,6 +1,5 @@
 -- Each arm adds the text of what the operand was found to be. Assumes nothing.
 use Rattle.printer.specs.Text.{operand_of}
-use borrow.Author.Rules.{rules}
 use Rattle.printer.proofs.operands.operand.Goals as goal
 
 pub returns-in-Reg : goal.returns-in-Reg

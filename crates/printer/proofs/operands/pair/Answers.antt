@@ -1,7 +1,6 @@
 -- The pieces are the definition's, in its order. Assumes nothing.
 use Rattle.printer.specs.Text.{pair}
 use Rattle.printer.proofs.LineLaws.{joined}
-use borrow.Author.Rules.{rules}
 use Rattle.printer.proofs.operands.pair.Goals as goal
 
 pub returns : goal.returns

@@ -1,5 +1,4 @@
 -- Each edition has its own order of the two numbers. Assumes nothing.
-use borrow.Author.Rules.{rules}
 use Rattle.printer.specs.Text.{turned}
 use Rattle.printer.proofs.operands.turned.Goals as goal
 

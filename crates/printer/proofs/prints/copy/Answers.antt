@@ -1,9 +1,7 @@
 -- The first i bytes of the text are copied, and the rest of the buffer is as it was. Assumes nothing.
-use mathlib.Core.Path.{◌≡◌, refl}
-use Prim.Native.Nat.{◌-◌, ◌≤◌}
+use mathlib.Core.Path.{refl}
 use native.Mathlib.Omega.{arith}
-use lib.ListN.{length}
-use lib.Seq.{paste, paste-zero}
+use lib.Seq.{paste-zero}
 use Rattle.printer.proofs.PrintLaws.{copy_more, copy-end}
 use borrow.Author.Rules.{rules}
 use Rattle.printer.proofs.prints.copy.Goals as goal

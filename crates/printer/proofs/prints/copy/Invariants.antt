@@ -1,11 +1,8 @@
 -- The first i bytes of the text are copied, and the rest of the buffer is as it was. Assumes nothing.
-use mathlib.Core.Path.{◌≡◌, refl}
+use mathlib.Core.Path.{◌≡◌}
 use Prim.Native.Nat.{◌-◌, ◌≤◌}
-use native.Mathlib.Omega.{arith}
 use lib.ListN.{length}
-use lib.Seq.{paste, paste-zero}
-use Rattle.printer.proofs.PrintLaws.{copy_more, copy-end}
-use borrow.Author.Rules.{rules}
+use lib.Seq.{paste}
 use Rattle.printer.proofs.prints.copy.Given as goal
 
 abbrev pub invariant-loop-i : goal.invariant-loop-i

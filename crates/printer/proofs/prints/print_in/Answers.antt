@@ -6,7 +6,6 @@ use lib.ListN.{length}
 use Rattle.printer.specs.Text.{text_in}
 use Rattle.printer.proofs.Laws.{text-length, next-19, buffer-19}
 use Rattle.printer.proofs.PrintLaws.{line-text, line-fits}
-use borrow.Author.Rules.{rules}
 use Rattle.printer.proofs.prints.print_in.Goals as goal
 
 pub returns-then-out-at : goal.returns-then-out-at

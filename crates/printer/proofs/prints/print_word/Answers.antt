@@ -5,7 +5,6 @@ use Rattle.base.specs.Told.{is, no}
 use Rattle.base.specs.Numbers.{number_of}
 use Rattle.instruction.specs.Decode.{decode, told}
 use Rattle.printer.proofs.Laws.{word-next, word-buffer, none-next, none-buffer}
-use borrow.Author.Rules.{rules}
 use Rattle.printer.proofs.prints.print_word.Goals as goal
 
 pub returns-in-Ok : goal.returns-in-Ok

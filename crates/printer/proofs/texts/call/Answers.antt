@@ -1,7 +1,6 @@
 -- The pieces are the definition's, in its order. Assumes nothing.
 use Rattle.printer.specs.Text.{call_text}
 use Rattle.printer.proofs.LineLaws.{joined}
-use borrow.Author.Rules.{rules}
 use Rattle.printer.proofs.texts.call.Goals as goal
 
 pub returns-then-ret : goal.returns-then-ret

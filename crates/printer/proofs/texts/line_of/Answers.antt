@@ -1,7 +1,6 @@
 -- Each arm adds the name and the operands of the instruction that the arm was taken for. Assumes nothing.
 use Rattle.printer.specs.Text.{text_in}
 use Rattle.printer.proofs.LineLaws.{joined}
-use borrow.Author.Rules.{rules}
 use Rattle.printer.proofs.texts.line_of.Goals as goal
 
 pub returns-in-Noop : goal.returns-in-Noop

@@ -1,5 +1,4 @@
 -- Each arm is the definition's clause. Assumes nothing.
-use borrow.Author.Rules.{rules}
 use Rattle.source.proofs.aims.aim_of.Goals as goal
 
 pub returns-in-Jmp : goal.returns-in-Jmp

@@ -1,5 +1,4 @@
 -- A return aims nowhere, a call at its address. Assumes nothing.
-use borrow.Author.Rules.{rules}
 use Rattle.source.proofs.aims.call_to.Goals as goal
 
 pub returns : goal.returns

@@ -5,7 +5,6 @@ use borrow.Author.Tests.{ne_eqb}
 use Rattle.base.specs.Words.{doubled}
 use Rattle.base.proofs.Tests.{ltb-same}
 use Rattle.source.specs.Source.{inside}
-use borrow.Author.Rules.{rules}
 use Rattle.source.proofs.aims.inside.Goals as goal
 
 pub returns-then-a-eq0 : goal.returns-then-a-eq0

@@ -1,5 +1,4 @@
 -- Each arm is the definition's clause. Assumes nothing.
-use borrow.Author.Rules.{rules}
 use Rattle.source.proofs.aims.jump_to.Goals as goal
 
 pub returns-in-Imm : goal.returns-in-Imm

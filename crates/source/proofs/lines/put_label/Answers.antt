@@ -4,12 +4,10 @@ use mathlib.Core.Bool.{true, false}
 use Prim.Native.Nat.{◌/◌}
 use lib.Seq.{append_snoc}
 use native.Mathlib.Omega.{arith}
-use borrow.Author.Tests.{not-true, not-false}
 use Rattle.base.specs.Words.{doubled}
 use Rattle.source.specs.Source.{label_line}
 use Rattle.source.specs.Marks.{used_in, is_marked}
 use Rattle.pen.proofs.PenLaws.{none, joined}
-use borrow.Author.Rules.{rules}
 use Rattle.source.proofs.lines.put_label.Goals as goal
 
 pub returns-then-not-is_marked : goal.returns-then-not-is_marked

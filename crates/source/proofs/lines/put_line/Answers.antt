@@ -1,7 +1,6 @@
 -- The line by where it aims, and its byte 10. Assumes nothing.
 use mathlib.Core.Path.{◌∙◌}
 use Rattle.pen.proofs.PenLaws.{joined}
-use borrow.Author.Rules.{rules}
 use Rattle.source.proofs.lines.put_line.Goals as goal
 
 pub returns : goal.returns

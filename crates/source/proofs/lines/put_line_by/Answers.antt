@@ -1,6 +1,5 @@
 -- Each arm is the definition's clause, and the code's test for an address inside is the definition's. Assumes nothing.
 use mathlib.Core.Path.{sym, ◌∙◌}
-use borrow.Author.Rules.{rules}
 use Rattle.source.proofs.lines.put_line_by.Goals as goal
 
 pub returns-then-inside : goal.returns-then-inside

@@ -1,12 +1,7 @@
 -- What is left to write, the lines from word k on, makes the whole: a turn writes the first of them, after its label line. Assumes nothing.
-use mathlib.Core.Path.{◌≡◌, refl, sym, ◌∙◌}
-use mathlib.Core.List.{map}
-use Prim.Native.Nat.{◌-◌, ◌≤◌}
-use lib.ListN.{length, drop}
-use Rattle.pen.specs.Pen.{pen, wrote}
-use Rattle.text.specs.Lines.{ended}
-use Rattle.source.specs.Words.{instruction_of}
-use Rattle.source.specs.Source.{lines_of}
+use mathlib.Core.Path.{refl, sym, ◌∙◌}
+use lib.ListN.{length}
+use Rattle.pen.specs.Pen.{pen}
 use Rattle.source.specs.Marks.{used_in}
 use Rattle.source.proofs.LineLaws.{lines_more, lines-no-more}
 use borrow.Author.Rules.{rules}

@@ -1,5 +1,5 @@
 -- What is left to write, the lines from word k on, makes the whole: a turn writes the first of them, after its label line. Assumes nothing.
-use mathlib.Core.Path.{◌≡◌, refl, sym, ◌∙◌}
+use mathlib.Core.Path.{◌≡◌}
 use mathlib.Core.List.{map}
 use Prim.Native.Nat.{◌-◌, ◌≤◌}
 use lib.ListN.{length, drop}
@@ -8,8 +8,6 @@ use Rattle.text.specs.Lines.{ended}
 use Rattle.source.specs.Words.{instruction_of}
 use Rattle.source.specs.Source.{lines_of}
 use Rattle.source.specs.Marks.{used_in}
-use Rattle.source.proofs.LineLaws.{lines_more, lines-no-more}
-use borrow.Author.Rules.{rules}
 use Rattle.source.proofs.lines.put_lines.Given as goal
 
 abbrev pub invariant-loop-k : goal.invariant-loop-k

@@ -2,7 +2,6 @@
 use mathlib.Core.Path.{◌∙◌}
 use Rattle.source.specs.Source.{label_name}
 use Rattle.pen.proofs.PenLaws.{joined}
-use borrow.Author.Rules.{rules}
 use Rattle.source.proofs.lines.put_name.Goals as goal
 
 pub returns : goal.returns

@@ -2,7 +2,6 @@
 use mathlib.Core.Path.{◌∙◌}
 use mathlib.Core.Path.{sym}
 use Rattle.source.specs.Source.{plain_line}
-use borrow.Author.Rules.{rules}
 use Rattle.source.proofs.lines.put_plain.Goals as goal
 
 pub returns-then-is_noop : goal.returns-then-is_noop

@@ -1,6 +1,5 @@
 -- Past the marks none is set. Assumes nothing.
 use lib.ListN.{get_or-eq_default}
-use borrow.Author.Rules.{rules}
 use Rattle.source.proofs.marks.is_marked.Goals as goal
 
 pub returns : goal.returns

@@ -2,7 +2,6 @@
 use mathlib.Core.Path.{sym}
 use lib.Seq.{set_out}
 use borrow.Author.Tests.{ne_eqb}
-use borrow.Author.Rules.{rules}
 use Rattle.source.proofs.marks.mark.Goals as goal
 
 pub returns-then-k-used : goal.returns-then-k-used

@@ -1,10 +1,5 @@
 -- What is left to mark, from word i on, makes the whole: a turn marks for the first of them. Assumes nothing.
-use mathlib.Core.Path.{◌≡◌, refl, sym, ◌∙◌}
-use mathlib.Core.List.{map}
-use Prim.Native.Nat.{◌-◌, ◌≤◌}
-use lib.ListN.{length, drop}
-use Rattle.source.specs.Words.{instruction_of}
-use Rattle.source.specs.Marks.{marked}
+use mathlib.Core.Path.{refl, sym, ◌∙◌}
 use Rattle.source.proofs.MarkLaws.{mark-more, mark-no-more}
 use borrow.Author.Rules.{rules}
 use Rattle.source.proofs.marks.mark_all.Goals as goal

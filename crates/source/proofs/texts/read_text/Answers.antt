@@ -3,7 +3,6 @@ use mathlib.Core.Path.{sym}
 use native.Mathlib.Omega.{arith}
 use Rattle.wordbytes.proofs.Laws.{lent-part, lent_fits, read-part}
 use Rattle.source.proofs.ByteLaws.{ends-long, ends_read}
-use borrow.Author.Rules.{rules}
 use Rattle.source.proofs.texts.read_text.Goals as goal
 
 pub returns-then-n-gt32767 : goal.returns-then-n-gt32767

@@ -2,7 +2,6 @@
 -- stores them. Assumes nothing.
 use mathlib.Core.List.{[], ◌∷◌}
 use Rattle.source.proofs.AnswerLaws.{ends-16, ends-33, no_room, room}
-use borrow.Author.Rules.{rules}
 use Rattle.source.proofs.texts.text.Goals as goal
 
 pub returns-then-words-gt32767 : goal.returns-then-words-gt32767

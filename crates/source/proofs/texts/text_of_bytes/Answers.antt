@@ -1,6 +1,5 @@
 -- With half a word 31, else the text by way of the function's own words. Assumes nothing.
 use Rattle.source.proofs.ByteLaws.{ends-31}
-use borrow.Author.Rules.{rules}
 use Rattle.source.proofs.texts.text_of_bytes.Goals as goal
 
 pub returns-then-bytes-ne0 : goal.returns-then-bytes-ne0

@@ -2,7 +2,6 @@
 use mathlib.Core.Path.{sym, ap, ◌∙◌}
 use Rattle.instruction.specs.Decode.{told}
 use Rattle.source.proofs.AskLaws.{says, says_none}
-use borrow.Author.Rules.{rules}
 use Rattle.source.proofs.words.instruction_of.Goals as goal
 
 pub returns-in-Ok : goal.returns-in-Ok

@@ -1,9 +1,5 @@
 -- What is left to walk, from word i on, makes the whole: a turn passes a word that has a text. Assumes nothing.
-use mathlib.Core.Path.{◌≡◌, sym, ◌∙◌}
-use Prim.Native.Nat.{◌+◌, ◌-◌, ◌≤◌}
-use lib.ListN.{length, drop}
-use Rattle.source.specs.Words.{lowest}
-use borrow.Author.Tests.{not-true, not-false}
+use mathlib.Core.Path.{sym, ◌∙◌}
 use borrow.Author.Rules.{rules}
 use Rattle.source.proofs.AskLaws.{lowest-here, lowest-next, lowest-end}
 use Rattle.source.proofs.words.lowest.Goals as goal

@@ -1,11 +1,8 @@
 -- What is left to walk, from word i on, makes the whole: a turn passes a word that has a text. Assumes nothing.
-use mathlib.Core.Path.{◌≡◌, sym, ◌∙◌}
+use mathlib.Core.Path.{◌≡◌}
 use Prim.Native.Nat.{◌+◌, ◌-◌, ◌≤◌}
 use lib.ListN.{length, drop}
 use Rattle.source.specs.Words.{lowest}
-use borrow.Author.Tests.{not-true, not-false}
-use borrow.Author.Rules.{rules}
-use Rattle.source.proofs.AskLaws.{lowest-here, lowest-next, lowest-end}
 use Rattle.source.proofs.words.lowest.Given as goal
 
 abbrev pub invariant-loop-i : goal.invariant-loop-i
