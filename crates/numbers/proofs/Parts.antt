@@ -1,8 +1,7 @@
 -- The number that a C host gets comes apart into what was put into it: code and count, or words, open references and labels.
 -- Assumes nothing.
-use Prim.Native.Nat.{ℕ, ◌+◌, ◌*◌, ◌/◌, ◌%◌, ◌<◌}
+use Prim.Native.Nat.{ℕ, ◌/◌, ◌%◌, ◌<◌}
 use mathlib.Core.Path.{◌≡◌}
-use mathlib.Core.Bool.{true}
 use native.Mathlib.Omega.{arith}
 use Rattle.asm.specs.Assemble.{counts}
 use Rattle.numbers.specs.Answers.{coded, assembled_number}

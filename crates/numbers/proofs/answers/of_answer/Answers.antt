@@ -1,6 +1,5 @@
 -- One case for each answer. Assumes nothing.
 use mathlib.Core.Path.{◌∙◌}
-use borrow.Author.Rules.{rules}
 use Rattle.numbers.proofs.answers.of_answer.Goals as goal
 
 pub returns-in-Refused : goal.returns-in-Refused

@@ -5,7 +5,6 @@ use Rattle.asm.specs.Assemble.{reported}
 use Rattle.asm.specs.declared.Assembled.{Assembled}
 use Rattle.numbers.specs.Answers.{assembled_number}
 use Rattle.numbers.proofs.FittingLaws.{counts-fit}
-use borrow.Author.Rules.{rules}
 use Rattle.numbers.proofs.answers.of_assembly.Goals as goal
 
 pub overflow_mul-result : goal.overflow_mul-result

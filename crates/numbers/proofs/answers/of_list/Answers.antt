@@ -4,7 +4,6 @@ use native.Mathlib.Omega.{arith}
 use Rattle.printer.specs.Print.{printed}
 use Rattle.printer.specs.declared.Printed.{Printed}
 use Rattle.numbers.specs.Answers.{listed_number}
-use borrow.Author.Rules.{rules}
 use Rattle.numbers.proofs.answers.of_list.Goals as goal
 
 pub overflow_mul-result : goal.overflow_mul-result

@@ -4,7 +4,6 @@ use native.Mathlib.Omega.{arith}
 use Rattle.memory.specs.Blocks.{counted}
 use Rattle.memory.specs.declared.ReadOut.{ReadOut}
 use Rattle.numbers.specs.Answers.{counted_number}
-use borrow.Author.Rules.{rules}
 use Rattle.numbers.proofs.answers.of_read.Goals as goal
 
 pub coded-requires : goal.coded-requires

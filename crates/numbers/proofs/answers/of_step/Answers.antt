@@ -1,7 +1,6 @@
 -- One case for each answer. Assumes nothing.
 use mathlib.Core.Path.{◌∙◌}
 use native.Mathlib.Omega.{arith}
-use borrow.Author.Rules.{rules}
 use Rattle.numbers.proofs.answers.of_step.Goals as goal
 
 pub returns-in-Refused : goal.returns-in-Refused

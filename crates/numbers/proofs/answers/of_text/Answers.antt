@@ -4,7 +4,6 @@ use native.Mathlib.Omega.{arith}
 use Rattle.source.specs.declared.Written.{Written}
 use Rattle.source.specs.Source.{answered, Small}
 use Rattle.numbers.specs.Answers.{sourced_number}
-use borrow.Author.Rules.{rules}
 use Rattle.numbers.proofs.answers.of_text.Goals as goal
 
 pub coded-requires : goal.coded-requires

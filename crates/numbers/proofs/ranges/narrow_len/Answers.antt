@@ -5,7 +5,6 @@ use Prim.Native.Nat.{◌+◌}
 use lib.Dec.{ltb}
 use native.Mathlib.Omega.{arith}
 use borrow.Author.Tests.{ltb-false, not-true, not-false}
-use borrow.Author.Rules.{rules}
 use Rattle.numbers.proofs.ranges.narrow_len.Goals as goal
 
 pub returns-then-not-ends_within : goal.returns-then-not-ends_within
