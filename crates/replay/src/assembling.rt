@@ -8,6 +8,8 @@ use crate::said::{Said, add, decimal, hex_word, put, word};
 use crate::texts::{bytes_of, copy};
 use crate::{answers, label_tables, names, output};
 use asm::{Assembled, Rules};
+use std::io;
+use std::io::Write;
 
 // The space in front of every item but the first.
 fn parted(i: usize) -> Said {
@@ -19,17 +21,23 @@ fn parted(i: usize) -> Said {
 
 // The first n words, with spaces between them. Neither this nor the next asks its caller for a bound of n: there, it would be far to
 // fetch.
-fn word_list(words: &[u16; 32800], n: usize, out: &mut Output, at: usize) -> usize {
+fn word_list<W: Write>(
+    words: &[u16; 32800],
+    n: usize,
+    sink: &mut W,
+    out: &mut Output,
+    at: usize,
+) -> io::Result<usize> {
     if 32800 < n {
-        return at;
+        return Ok(at);
     }
     let mut p = at;
     let mut i: usize = 0;
     while i < n {
-        p = output::said(out, p, hex_word(parted(i), words[i]));
+        p = output::said(sink, out, p, hex_word(parted(i), words[i]))?;
         i += 1;
     }
-    p
+    Ok(p)
 }
 
 fn entry(i: usize, place: usize, length: usize, address: u16) -> Said {
@@ -39,28 +47,29 @@ fn entry(i: usize, place: usize, length: usize, address: u16) -> Said {
 }
 
 // The first n label entries, with spaces between them.
-fn entry_list(
+fn entry_list<W: Write>(
     places: &[usize; 1100],
     lengths: &[usize; 1100],
     addresses: &[u16; 1100],
     n: usize,
+    sink: &mut W,
     out: &mut Output,
     at: usize,
-) -> usize {
+) -> io::Result<usize> {
     if 1100 < n {
-        return at;
+        return Ok(at);
     }
     let mut p = at;
     let mut i: usize = 0;
     while i < n {
-        p = output::said(out, p, entry(i, places[i], lengths[i], addresses[i]));
+        p = output::said(sink, out, p, entry(i, places[i], lengths[i], addresses[i]))?;
         i += 1;
     }
-    p
+    Ok(p)
 }
 
 // The answer, then all that was lent.
-fn shown(
+fn shown<W: Write>(
     r: Assembled,
     words: &[u16; 32800],
     word_room: usize,
@@ -68,13 +77,14 @@ fn shown(
     lengths: &[usize; 1100],
     addresses: &[u16; 1100],
     label_room: usize,
+    sink: &mut W,
     out: &mut Output,
     p: usize,
-) -> usize {
-    let p = output::said(out, p, add(answers::assembled(r), b" | "));
-    let p = word_list(words, word_room, out, p);
-    let p = output::said(out, p, word(b" | "));
-    entry_list(places, lengths, addresses, label_room, out, p)
+) -> io::Result<usize> {
+    let p = output::said(sink, out, p, add(answers::assembled(r), b" | "))?;
+    let p = word_list(words, word_room, sink, out, p)?;
+    let p = output::said(sink, out, p, word(b" | "))?;
+    entry_list(places, lengths, addresses, label_room, sink, out, p)
 }
 
 // The rooms that the line asks for: its shape allows no more.
@@ -91,7 +101,13 @@ fn label_room(c: Command) -> usize
 }
 
 // Assembles a text.
-fn assembled(c: Command, text: &[u8], out: &mut Output, p: usize) -> usize {
+fn assembled<W: Write>(
+    c: Command,
+    text: &[u8],
+    sink: &mut W,
+    out: &mut Output,
+    p: usize,
+) -> io::Result<usize> {
     let words = word_room(c);
     let labels = label_room(c);
     let strict = c.choice == names::STRICT;
@@ -108,11 +124,19 @@ fn assembled(c: Command, text: &[u8], out: &mut Output, p: usize) -> usize {
         &mut length,
         &mut address,
     );
-    shown(r, &word, words, &place, &length, &address, labels, out, p)
+    shown(
+        r, &word, words, &place, &length, &address, labels, sink, out, p,
+    )
 }
 
-pub fn assemble(c: Command, line: &[u8], out: &mut Output, p: usize) -> usize {
-    assembled(c, bytes_of(line, c.text), out, p)
+pub fn assemble<W: Write>(
+    c: Command,
+    line: &[u8],
+    sink: &mut W,
+    out: &mut Output,
+    p: usize,
+) -> io::Result<usize> {
+    assembled(c, bytes_of(line, c.text), sink, out, p)
 }
 
 // Puts a text behind the first `at` bytes. Where that does not fit it ends nowhere, and nothing fits behind nowhere.
@@ -138,19 +162,32 @@ fn append_copies(text: &[u8], count: usize, to: &mut [u8; 131200]) -> usize {
 }
 
 // Assembles the first n bytes.
-fn assembled_first(c: Command, text: &[u8; 131200], n: usize, out: &mut Output, p: usize) -> usize {
+fn assembled_first<W: Write>(
+    c: Command,
+    text: &[u8; 131200],
+    n: usize,
+    sink: &mut W,
+    out: &mut Output,
+    p: usize,
+) -> io::Result<usize> {
     let all = &text[..];
     if all.len() < n {
-        return output::said(out, p, word(b"?"));
+        return output::said(sink, out, p, word(b"?"));
     }
-    assembled(c, &all[0..n], out, p)
+    assembled(c, &all[0..n], sink, out, p)
 }
 
 // Assembles so many copies of the line's first text and then the second. No text of 65,600 bytes has 32,768 instructions, so that
 // this alone can fill a program.
-pub fn assemble_copies(c: Command, line: &[u8], out: &mut Output, p: usize) -> usize {
+pub fn assemble_copies<W: Write>(
+    c: Command,
+    line: &[u8],
+    sink: &mut W,
+    out: &mut Output,
+    p: usize,
+) -> io::Result<usize> {
     let mut text = [0u8; 131200];
     let at = append_copies(bytes_of(line, c.text), c.c as usize, &mut text);
     let n = append(bytes_of(line, c.rest), &mut text, at);
-    assembled_first(c, &text, n, out, p)
+    assembled_first(c, &text, n, sink, out, p)
 }

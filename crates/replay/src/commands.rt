@@ -20,6 +20,8 @@ use crate::state::{Journal, Memory, Script, found, with_state};
 use crate::tables::{protect, register, tables};
 use crate::{lines, names, output};
 use journal::State;
+use std::io;
+use std::io::Write;
 
 // The script after a line, and the place after its answer in the output.
 #[derive(Clone, Copy)]
@@ -113,7 +115,7 @@ fn printing(c: Command) -> u64 {
 }
 
 // Prints what was said, or what a command with a long answer has to say.
-fn show(
+fn show<W: Write>(
     said: Said,
     w: State,
     c: Command,
@@ -121,41 +123,43 @@ fn show(
     mem: &[u8],
     dev: &[u8],
     journal: &[u8],
+    sink: &mut W,
     out: &mut Output,
     p: usize,
-) -> usize {
+) -> io::Result<usize> {
     match printing(c) {
-        names::READ => dump(w, c, mem, dev, journal, out, p),
-        names::STATE => print_state(w, mem, dev, journal, out, p),
-        names::PRINT => print(w, c, mem, dev, journal, out, p),
-        names::ASM => assemble(c, line, out, p),
-        names::ASMN => assemble_copies(c, line, out, p),
-        names::LISTING => listing(c, line, out, p),
-        names::TEXT | names::TEXTN => text(c, line, out, p),
-        _ => output::said(out, p, said),
+        names::READ => dump(w, c, mem, dev, journal, sink, out, p),
+        names::STATE => print_state(w, mem, dev, journal, sink, out, p),
+        names::PRINT => print(w, c, mem, dev, journal, sink, out, p),
+        names::ASM => assemble(c, line, sink, out, p),
+        names::ASMN => assemble_copies(c, line, sink, out, p),
+        names::LISTING => listing(c, line, sink, out, p),
+        names::TEXT | names::TEXTN => text(c, line, sink, out, p),
+        _ => output::said(sink, out, p, said),
     }
 }
 
-fn perform(
+fn perform<W: Write>(
     s: Script,
     c: Command,
     line: &[u8],
     mem: &mut [u8],
     dev: &mut [u8],
     journal: &mut [u8],
+    sink: &mut W,
     out: &mut Output,
     p: usize,
-) -> Turn {
+) -> io::Result<Turn> {
     let w = s.state;
     let o = act(w, c, line, mem, dev, journal);
     let after = o.state;
     let said = o.said;
-    let p = show(said, after, c, line, mem, dev, journal, out, p);
-    let at = output::put(out, p, b'\n');
-    Turn {
+    let p = show(said, after, c, line, mem, dev, journal, sink, out, p)?;
+    let at = output::put(sink, out, p, b'\n')?;
+    Ok(Turn {
         script: with_state(s, after),
         at,
-    }
+    })
 }
 
 fn least(a: usize, b: usize) -> usize
@@ -165,16 +169,17 @@ fn least(a: usize, b: usize) -> usize
 }
 
 // Each buffer is lent at the length that the last `new` asked for, which is never more than there is.
-fn sized(
+fn sized<W: Write>(
     s: Script,
     c: Command,
     line: &[u8],
     mem: &mut [u8],
     dev: &mut [u8],
     journal: &mut [u8],
+    sink: &mut W,
     out: &mut Output,
     p: usize,
-) -> Turn {
+) -> io::Result<Turn> {
     let m = least(s.mem, mem.len());
     let d = least(s.dev, dev.len());
     let j = least(s.journal, journal.len());
@@ -185,6 +190,7 @@ fn sized(
         &mut mem[0..m],
         &mut dev[0..d],
         &mut journal[0..j],
+        sink,
         out,
         p,
     )
@@ -198,18 +204,19 @@ fn fitting(have: usize, room: usize) -> usize
 }
 
 // The answer to the line that has so many bytes.
-pub fn answer(
+pub fn answer<W: Write>(
     s: Script,
     line: &mut [u8],
     have: usize,
     mem: &mut Memory,
     dev: &mut Memory,
     journal: &mut Journal,
+    sink: &mut W,
     out: &mut Output,
     p: usize,
-) -> Turn {
+) -> io::Result<Turn> {
     let n = fitting(have, line.len());
     let c = spelt_out(lines::read(&line[0..n]), line);
     let t = found(s, c);
-    sized(t, c, &line[0..n], mem, dev, journal, out, p)
+    sized(t, c, &line[0..n], mem, dev, journal, sink, out, p)
 }

@@ -11,6 +11,8 @@ use crate::{names, output};
 use journal::State;
 use machine::Machine;
 use printer::print_word;
+use std::io;
+use std::io::Write;
 
 // What a command leaves in a buffer, and what it says of that.
 fn filled(w: State, c: Command, mem: &[u8], dev: &[u8], journal: &[u8], buf: &mut [u8]) -> Said {
@@ -39,41 +41,50 @@ pub fn room(c: Command) -> usize
 }
 
 // The verdict, and then the first n bytes of the buffer.
-pub fn shown(t: Said, buf: &[u8; 65600], n: usize, out: &mut Output, p: usize) -> usize {
-    let p = output::said(out, p, put(t, b' '));
-    output::hex_bytes(out, p, buf, n)
+pub fn shown<W: Write>(
+    t: Said,
+    buf: &[u8; 65600],
+    n: usize,
+    sink: &mut W,
+    out: &mut Output,
+    p: usize,
+) -> io::Result<usize> {
+    let p = output::said(sink, out, p, put(t, b' '))?;
+    output::hex_bytes(sink, out, p, buf, n)
 }
 
 // Commands that fill a buffer and show it whole.
-pub fn dump(
+pub fn dump<W: Write>(
     w: State,
     c: Command,
     mem: &[u8],
     dev: &[u8],
     journal: &[u8],
+    sink: &mut W,
     out: &mut Output,
     p: usize,
-) -> usize {
+) -> io::Result<usize> {
     let n = room(c);
     let mut buf = [0xEEu8; 65600];
     let t = filled(w, c, mem, dev, journal, &mut buf[0..n]);
-    shown(t, &buf, n, out, p)
+    shown(t, &buf, n, sink, out, p)
 }
 
 // A word that is no instruction has nothing to show.
-pub fn print(
+pub fn print<W: Write>(
     w: State,
     c: Command,
     mem: &[u8],
     dev: &[u8],
     journal: &[u8],
+    sink: &mut W,
     out: &mut Output,
     p: usize,
-) -> usize {
+) -> io::Result<usize> {
     if is_instruction(short(c.a)) {
-        return dump(w, c, mem, dev, journal, out, p);
+        return dump(w, c, mem, dev, journal, sink, out, p);
     }
-    output::said(out, p, decode(c))
+    output::said(sink, out, p, decode(c))
 }
 
 // Registers, debug mode, both tables with their counts, next and held: the numbers of the state, in the order of its line.
@@ -113,15 +124,22 @@ fn sums(mem: &[u8], dev: &[u8], journal: &[u8]) -> Said {
     hex_eight(put(t, b' '), adler(journal))
 }
 
-pub fn print_state(
+pub fn print_state<W: Write>(
     w: State,
     mem: &[u8],
     dev: &[u8],
     journal: &[u8],
+    sink: &mut W,
     out: &mut Output,
     p: usize,
-) -> usize {
+) -> io::Result<usize> {
     let v = numbers(w);
-    let p = output::numbers(out, p, &v, b",,,,,,,   ,;,;,;,;,;,;,;,  ,;,;,;,;,;,;,;,   ");
-    output::said(out, p, sums(mem, dev, journal))
+    let p = output::numbers(
+        sink,
+        out,
+        p,
+        &v,
+        b",,,,,,,   ,;,;,;,;,;,;,;,  ,;,;,;,;,;,;,;,   ",
+    )?;
+    output::said(sink, out, p, sums(mem, dev, journal))
 }

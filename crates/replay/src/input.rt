@@ -2,7 +2,8 @@
 use crate::commands::{Turn, answer};
 use crate::output::{Output, flush};
 use crate::state::{Journal, Memory, Script, zero};
-use libc::STDIN_FILENO;
+use std::io;
+use std::io::{Read, Write};
 
 // Room for the longest line that a command may need, and for what is read at a time.
 type Line = [u8; 524288];
@@ -86,78 +87,93 @@ fn took(f: Flow, chunk: &[u8], line: &mut [u8]) -> Flow {
 
 // Reads once more. What waits is written out before, so that whoever sends line by line has each answer before the
 // next read. Where the input has ended, what is left is a line, though no line end follows it.
-fn refill(f: Flow, chunk: &mut Chunk, out: &Output) -> Flow {
-    flush(out, f.at);
-    let got = libc::read(STDIN_FILENO, chunk);
-    let n = io::count(got, chunk);
-    Flow {
+fn refill<R: Read, W: Write>(
+    f: Flow,
+    input: &mut R,
+    chunk: &mut Chunk,
+    sink: &mut W,
+    out: &Output,
+) -> io::Result<Flow> {
+    flush(sink, out, f.at)?;
+    let n = input.read(chunk)?;
+    Ok(Flow {
         count: n,
         from: 0,
         have: f.have,
         at: 0,
         is_whole: n == 0 && 0 < f.have,
         is_over: n == 0,
-    }
+    })
 }
 
-fn gather(f: Flow, chunk: &mut Chunk, line: &mut Line, out: &Output) -> Flow {
+fn gather<R: Read, W: Write>(
+    f: Flow,
+    input: &mut R,
+    chunk: &mut Chunk,
+    line: &mut Line,
+    sink: &mut W,
+    out: &Output,
+) -> io::Result<Flow> {
     if f.from < f.count {
-        return took(f, chunk, line);
+        return Ok(took(f, chunk, line));
     }
-    refill(f, chunk, out)
+    refill(f, input, chunk, sink, out)
 }
 
 // The flow after its turn: where a line was answered, the next one begins; after the last, what waits is written out.
-fn passed(f: Flow, at: usize, out: &Output) -> Flow {
+fn passed<W: Write>(f: Flow, at: usize, sink: &mut W, out: &Output) -> io::Result<Flow> {
     let mut t = f;
     t.at = at;
     if f.is_whole {
         t.have = 0;
     }
     if f.is_over {
-        flush(out, at);
+        flush(sink, out, at)?;
     }
-    t
+    Ok(t)
 }
 
 // Answers the line, if it has come whole.
-fn turn(
+fn turn<W: Write>(
     s: Script,
     f: Flow,
     mem: &mut Memory,
     dev: &mut Memory,
     journal: &mut Journal,
     line: &mut Line,
+    sink: &mut W,
     out: &mut Output,
-) -> Turn {
+) -> io::Result<Turn> {
     if !f.is_whole {
-        return Turn {
+        return Ok(Turn {
             script: s,
             at: f.at,
-        };
+        });
     }
-    answer(s, line, f.have, mem, dev, journal, out, f.at)
+    answer(s, line, f.have, mem, dev, journal, sink, out, f.at)
 }
 
 // Takes or reads what comes next, and answers it where that makes a line.
-fn round(
+fn round<R: Read, W: Write>(
     s: Session,
     mem: &mut Memory,
     dev: &mut Memory,
     journal: &mut Journal,
+    input: &mut R,
     chunk: &mut Chunk,
     line: &mut Line,
+    sink: &mut W,
     out: &mut Output,
-) -> Session {
-    let f = gather(s.flow, chunk, line, out);
+) -> io::Result<Session> {
+    let f = gather(s.flow, input, chunk, line, sink, out)?;
     let script = s.script;
-    let t = turn(script, f, mem, dev, journal, line, out);
+    let t = turn(script, f, mem, dev, journal, line, sink, out)?;
     let after = t.script;
-    let flow = passed(f, t.at, out);
-    Session {
+    let flow = passed(f, t.at, sink, out)?;
+    Ok(Session {
         script: after,
         flow,
-    }
+    })
 }
 
 fn start() -> Session {
@@ -180,21 +196,24 @@ fn is_over(s: Session) -> bool {
 
 // A proved loop has to end, and nothing says that the input does. So the loop counts its turns down, from a number
 // that no run uses up; it stops where the input does.
-pub fn run(
+pub fn run<R: Read, W: Write>(
     mem: &mut Memory,
     dev: &mut Memory,
     journal: &mut Journal,
+    input: &mut R,
     chunk: &mut Chunk,
     line: &mut Line,
+    sink: &mut W,
     out: &mut Output,
-) {
+) -> io::Result<()> {
     let mut s = start();
     let mut turns = u64::MAX;
     while turns > 0 {
-        s = round(s, mem, dev, journal, chunk, line, out);
+        s = round(s, mem, dev, journal, input, chunk, line, sink, out)?;
         if is_over(s) {
-            return;
+            return Ok(());
         }
         turns -= 1;
     }
+    Ok(())
 }

@@ -5,11 +5,19 @@ use crate::output;
 use crate::output::Output;
 use crate::texts::bytes_of;
 use printer::Printed;
+use std::io;
+use std::io::Write;
 
-fn shown(r: Printed, list: &[u8; 262144], out: &mut Output, p: usize) -> usize {
+fn shown<W: Write>(
+    r: Printed,
+    list: &[u8; 262144],
+    sink: &mut W,
+    out: &mut Output,
+    p: usize,
+) -> io::Result<usize> {
     match r {
-        Printed::Next(n) => output::hex_bytes(out, p, list, n),
-        Printed::Refused(r) => output::said(out, p, refused(r)),
+        Printed::Next(n) => output::hex_bytes(sink, out, p, list, n),
+        Printed::Refused(r) => output::said(sink, out, p, refused(r)),
     }
 }
 
@@ -19,8 +27,14 @@ fn list_into(text: &[u8], list: &mut [u8; 262144]) -> Printed {
     lister::list(text, list)
 }
 
-pub fn listing(c: Command, line: &[u8], out: &mut Output, p: usize) -> usize {
+pub fn listing<W: Write>(
+    c: Command,
+    line: &[u8],
+    sink: &mut W,
+    out: &mut Output,
+    p: usize,
+) -> io::Result<usize> {
     let mut list = [0u8; 262144];
     let r = list_into(bytes_of(line, c.text), &mut list);
-    shown(r, &list, out, p)
+    shown(r, &list, sink, out, p)
 }

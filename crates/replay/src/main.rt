@@ -28,21 +28,26 @@ mod state;
 mod tables;
 mod texts;
 
+use std::io;
+
 // The buffers at the longest that a script may ask for, and room for the longest line that a command may need. They
-// stand here, once, and are lent down from here: nothing of their size is ever copied.
-fn main() {
+// stand here, once, and are lent down from here: nothing of their size is ever copied. A read or a write that fails ends the
+// program with that error.
+fn main(rt: HostRuntime) -> io::Result<()> {
     let mut mem = [0u8; 65792];
     let mut dev = [0u8; 65792];
     let mut journal = [0u8; 94300];
     let mut line = [0u8; 524288];
-    let mut out = io::large_buffer();
-    let mut chunk = io::large_buffer();
+    let mut out = [0u8; 65536];
+    let mut chunk = [0u8; 65536];
     input::run(
         &mut mem,
         &mut dev,
         &mut journal,
+        &mut rt.stdin(),
         &mut chunk,
         &mut line,
+        &mut rt.stdout(),
         &mut out,
-    );
+    )
 }

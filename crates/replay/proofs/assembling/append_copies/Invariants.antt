@@ -1,0 +1,10 @@
+-- `replay::assembling::append_copies` is safe and ends.
+-- Assumes nothing.
+use Rattle.std.proofs.Common.{◌≤◌, ◌-◌}
+use Rattle.replay.proofs.assembling.append_copies.Given as goal
+
+abbrev pub invariant-loop-i : goal.invariant-loop-i
+invariant-loop-i l = l.i ≤ l.count
+
+abbrev pub decreases-loop-i : goal.decreases-loop-i
+decreases-loop-i l = l.count - l.i

@@ -1,0 +1,10 @@
+-- `replay::parse::name` is safe and ends.
+-- Assumes nothing.
+use Rattle.std.proofs.Common.{length, ◌≤◌, ◌-◌}
+use Rattle.replay.proofs.parse.name.Given as goal
+
+abbrev pub invariant-loop-i : goal.invariant-loop-i
+invariant-loop-i l = l.from ≤ l.i
+
+abbrev pub decreases-loop-i : goal.decreases-loop-i
+decreases-loop-i l = length l.line - l.i
