@@ -1,8 +1,6 @@
 -- 31 but for a block and bytes of whole words, whose words are loaded into the block's state. Assumes nothing.
 use mathlib.Core.Path.{◌≡◌, sym, ◌∙◌}
 use mathlib.Core.Bool.{true, false}
-use borrow.Author.Rules.{rules}
-use borrow.Author.Tests.{not-true, not-false}
 use Rattle.memory.specs.Bytes.{lent}
 use Rattle.block.specs.Block.{is_block}
 use Rattle.seamkettle.proofs.LoadLaws.{load-bad, load-odd, load-good, unnumbered}

@@ -1,7 +1,6 @@
 -- The words that were read are loaded, or others that are too many likewise. Assumes nothing.
 use mathlib.Core.Path.{sym, ◌∙◌}
 use native.Mathlib.Omega.{arith}
-use borrow.Author.Rules.{rules}
 use Rattle.wordbytes.proofs.Laws.{lent-part, lent_fits, read-part}
 use Rattle.memory.specs.Bytes.{lent}
 use Rattle.seamkettle.proofs.LoadLaws.{load_many, load_read}

@@ -1,13 +1,11 @@
 -- No block is 31; else the call below decides, and its state is packed. Assumes nothing.
 use mathlib.Core.Path.{◌≡◌, sym, ◌∙◌}
 use mathlib.Core.Bool.{true, false}
-use borrow.Author.Tests.{not-true, not-false}
 use Rattle.journal.specs.declared.State.{State}
 use Rattle.block.specs.Block.{is_block}
 use Rattle.block.proofs.Laws.{block-length}
 use Rattle.journal.specs.Back.{forget_number, forgotten}
 use Rattle.seamkettle.proofs.CallLaws.{number-none, number-some, block_none, block-some}
-use borrow.Author.Rules.{rules}
 use Rattle.seamkettle.proofs.steps.kettle_forget.Goals as goal
 
 pub returns-then-not-is_block : goal.returns-then-not-is_block

@@ -1,12 +1,10 @@
 -- No block is 31; else the call below decides, and its state is packed. Assumes nothing.
 use mathlib.Core.Path.{◌≡◌, sym, ◌∙◌}
 use mathlib.Core.Bool.{true, false}
-use borrow.Author.Tests.{not-true, not-false}
 use Rattle.memory.specs.Bytes.{lent}
 use Rattle.block.specs.Block.{is_block}
 use Rattle.block.proofs.Laws.{block-length}
 use Rattle.seamkettle.proofs.CallLaws.{stepping-back-none, stepping-back-some}
-use borrow.Author.Rules.{rules}
 use Rattle.seamkettle.proofs.steps.kettle_step_back.Goals as goal
 
 pub returns-then-not-is_block : goal.returns-then-not-is_block

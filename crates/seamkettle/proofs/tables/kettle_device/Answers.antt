@@ -1,14 +1,12 @@
 -- No block is 31; else the call below decides, of a range that comes to the same, and its state is packed. Assumes nothing.
 use mathlib.Core.Path.{◌≡◌, sym, ◌∙◌}
 use mathlib.Core.Bool.{true, false}
-use borrow.Author.Tests.{not-true, not-false}
 use Rattle.journal.specs.declared.State.{State}
 use Rattle.block.specs.Block.{is_block}
 use Rattle.block.proofs.Laws.{block-length}
 use Rattle.host.specs.Host.{register_number, register_state}
 use Rattle.seamkettle.proofs.CallLaws.{number-none, number-some, block_none, block-some}
 use Rattle.seamkettle.proofs.RangeLaws.{register-narrow}
-use borrow.Author.Rules.{rules}
 use Rattle.seamkettle.proofs.tables.kettle_device.Goals as goal
 
 pub returns-then-not-is_block : goal.returns-then-not-is_block

@@ -1,6 +1,5 @@
 -- As many words are lent as are wanted, 32,767 at most, and that is room enough. Assumes nothing.
 use mathlib.Core.Path.{sym}
-use borrow.Author.Rules.{rules}
 use Rattle.asm.specs.Assemble.{reported}
 use Rattle.seamkettle.proofs.TextLaws.{own-lent, own-length, own-fits, assembled-answer, assembled-fits, assembled-bytes}
 use Rattle.seamkettle.proofs.texts.assemble_bytes.Goals as goal

@@ -1,9 +1,6 @@
 -- What is left, filled up with zeros from i on, stays the same. Assumes nothing.
-use Prim.Native.Nat.{◌-◌}
-use borrow.Author.Rules.{rules}
-use lib.ListN.{length, length-set, take}
-use mathlib.Core.Path.{◌∙◌, ◌≡◌, refl, sym}
-use Rattle.asm.specs.Assemble.{filled}
+use lib.ListN.{length-set}
+use mathlib.Core.Path.{◌∙◌, refl, sym}
 use Rattle.asm.proofs.FillLaws.{clear-end, clear_step}
 use Rattle.seamkettle.proofs.texts.clear_bytes.Goals as goal
 

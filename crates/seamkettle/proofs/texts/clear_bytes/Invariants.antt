@@ -1,10 +1,8 @@
 -- What is left, filled up with zeros from i on, stays the same. Assumes nothing.
 use Prim.Native.Nat.{◌-◌}
-use borrow.Author.Rules.{rules}
-use lib.ListN.{length, length-set, take}
-use mathlib.Core.Path.{◌∙◌, ◌≡◌, refl, sym}
+use lib.ListN.{length, take}
+use mathlib.Core.Path.{◌≡◌}
 use Rattle.asm.specs.Assemble.{filled}
-use Rattle.asm.proofs.FillLaws.{clear-end, clear_step}
 use Rattle.seamkettle.proofs.texts.clear_bytes.Given as goal
 
 abbrev pub invariant-loop-i : goal.invariant-loop-i

@@ -1,7 +1,6 @@
 -- A word's text is short enough for its length to fit, and its number is the answer's. Assumes nothing.
 use mathlib.Core.Path.{ap, ◌∙◌}
 use lib.ListN.{length}
-use borrow.Author.Rules.{rules}
 use Rattle.printer.specs.Print.{printed}
 use Rattle.numbers.specs.Answers.{listed_number}
 use Rattle.seamkettle.proofs.TextLaws.{word_fits}

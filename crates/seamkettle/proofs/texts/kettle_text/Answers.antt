@@ -1,7 +1,6 @@
 -- The text is short enough for its length to fit above the code, and the number is the answer's. Assumes nothing.
 use mathlib.Core.Path.{ap, ◌∙◌}
 use Rattle.numbers.specs.Answers.{sourced_number}
-use borrow.Author.Rules.{rules}
 use Rattle.seamkettle.proofs.texts.kettle_text.Goals as goal
 
 pub returns : goal.returns
