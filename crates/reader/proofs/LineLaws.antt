@@ -133,3 +133,6 @@ module _ (s : List ℕ) (at : ℕ) (h : at < length s) where
 
   pub line-inside : at + length (line_at s at) ≤ length s
   line-inside = omega (arith, line-length, run-le not_end (drop at s), length-drop at s)
+
+-- the three laws of the search for a byte over 127
+pub ruleset ascii_laws = (ascii-not, ascii-next, ascii-end)

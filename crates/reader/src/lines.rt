@@ -26,6 +26,7 @@ pub fn after_line(s: &[u8], at: usize) -> usize
     }
 }
 
+#[tactic(auto, using(crate::proofs::LineLaws::ascii_laws))]
 fn is_ascii(s: &[u8]) -> bool
     ensures { result ≡ is_ascii s.now }
 {

@@ -6,7 +6,7 @@ use lib.ListN.{drop, drop_of_length-le, get_or, length}
 use lib.Seq.{drop-cons}
 use mathlib.Core.Bool.{Bool, false, true}
 use mathlib.Core.List.{List, [], ◌∷◌}
-use mathlib.Core.Path.{◌≡◌, refl}
+use mathlib.Core.Path.{◌≡◌, refl, ◌∙◌}
 use native.Mathlib.Nat.{le-mul_of_pos_right}
 use native.Mathlib.Numerals.{add-one}
 use native.Mathlib.Omega.{arith}
@@ -38,6 +38,11 @@ num-over base h acc o xs = cases (all_digits base xs)
         let l : 65535 < value_from base acc xs = omega (arith, grows base h acc xs) in
         rw (lt-leb _ _ l)
     cases false = refl
+
+-- one digit more makes the number too large
+pub num_past : (base : ℕ) (s : List ℕ) (acc i : ℕ) → 1 ≤ base → i < length s → digit_of (get_or s i 0) < base → 65535 < acc * base + digit_of (get_or s i 0) →
+    digits_from base acc (drop i s) ≡ no 24
+num_past base s acc i b h d o = num-step base s acc i h d ∙ num-over base b (acc * base + digit_of (get_or s i 0)) o (drop (i + 1) s)
 
 pub num-some : (base : ℕ) (s : List ℕ) → (length s ≡ 0 → ⊥) → digits_from base 0 s ≡ digits base s
 num-some base [] h = absurd (h refl)

@@ -32,6 +32,7 @@ fn digit(b: u8) -> u32
 }
 
 // The number that the digits of `s` are, at most 65,535.
+#[tactic(auto, using(crate::proofs::ImmediateLaws::num_past))]
 fn number(s: &[u8], base: u32) -> Immediate
     requires { (1 ≤ base) × (base ≤ 16) }
     ensures { told result ≡ digits base s.now }
