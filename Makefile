@@ -21,7 +21,7 @@ DIST ?= target/dist
 CFLAGS ?= -O2 -g
 CXXFLAGS ?= -O2 -g
 
-# The archive is x86-64. On another processor what is linked with it is cross-built, and the kit's emulator runs it.
+# The archive is x86-64. On another processor what is linked with it is cross-built, and an emulator runs it (tools/on-x86-64).
 ifneq ($(shell uname -m),x86_64)
 ifeq ($(origin CC),default)
 CC = x86_64-linux-gnu-gcc

@@ -19,7 +19,7 @@ def stop(why):
 def call(*command, cwd=ROOT):
     """Runs a command. What it says is shown only where it fails."""
     command = [str(word) for word in command]
-    done = subprocess.run(command, cwd=cwd, stdout=subprocess.PIPE, stderr=subprocess.STDOUT, text=True)
+    done = subprocess.run(command, cwd=cwd, stdin=subprocess.DEVNULL, stdout=subprocess.PIPE, stderr=subprocess.STDOUT, text=True)
     if done.returncode != 0:
         stop(f"{' '.join(command)} ended with {done.returncode}\n{done.stdout}")
 
@@ -29,9 +29,9 @@ def first_line(*command):
     return subprocess.run(command, stdout=subprocess.PIPE, text=True, check=True).stdout.splitlines()[0]
 
 
-def build_ours(folder, crate, uses):
+def build_ours(folder, crate, uses, wrote):
     """Proves and builds the program of `folder`/main.rattle as a crate in a copy of the repository: it is no crate of the
-    repository itself. `uses` is all that it names."""
+    repository itself. `uses` is all that it names, `wrote` what it writes on no input."""
     copy = MADE / "ours"
     shutil.rmtree(copy, ignore_errors=True)
     shutil.copytree(ROOT / "crates", copy / "crates", ignore=shutil.ignore_patterns("out"))
@@ -42,9 +42,11 @@ def build_ours(folder, crate, uses):
     for proof in folder.glob("*.invariants"):
         (made / "proofs" / proof.stem).mkdir(parents=True)
         shutil.copy(proof, made / "proofs" / proof.stem / "Invariants.antt")
-    # rt runs it on an empty input
     call("rt", "run", "--cpu", "x86-64", cwd=made)
-    return made / "out" / crate
+    program = made / "out" / crate
+    if run(on_x86_64(program), b"")[0].decode() != wrote:
+        stop(f"{program} writes something else than {wrote!r} on no input")
+    return program
 
 
 def rustc():
