@@ -1,13 +1,13 @@
--- Two answers with one number are one answer, since the number finds its answer again in a table. So a contract that fixes the number fixes the answer. Assumes nothing.
+-- Two refusals with one number are one, since the number finds its refusal again in a table; so are two verdicts. So a contract that fixes the number fixes the answer. Assumes nothing.
 use mathlib.Core.Path.{◌≡◌, refl, sym, ap, ◌∙◌}
-use mathlib.Core.List.{List, [], ◌∷◌, map}
-use Prim.Native.Nat.{ℕ}
+use mathlib.Core.List.{List, [], ◌∷◌}
+use Prim.Native.Nat.{ℕ, pred}
+use native.Mathlib.Omega.{arith}
 use lib.ListN.{get_or}
+use Rattle.std.specs.Prelude.{Result, Ok, Err, ⊤}
 use Rattle.base.specs.Numbers.{number_of, answer_number}
 use Rattle.base.specs.declared.refusals.Refusal.{Refusal}
 use Rattle.base.specs.declared.refusals.Refusal.TheVariants.{BadState, FetchUnmapped, AddressOverflow, BadOpcode, BadCompare, BadArith, ArithOverflow, DivideByZero, PcOverflow, NothingToUndo, BadJournal, RangeOverflow, Overlap, TableFull, WriteFailed, TooLong, NoDeviceRoom, BadRegister, NoRoom, InvalidRegister, InvalidOperands, InvalidInstruction, InvalidFormat, InvalidImmediate, UnresolvedLabel, NotAscii, TooManyLabels, TooManyFixups, ProgramFull, FieldTooWide, BadBlock, NotDecodable, NoText}
-use Rattle.base.specs.declared.refusals.Answer.{Answer}
-use Rattle.base.specs.declared.refusals.Answer.TheVariants.{Accepted, Refused}
 
 -- the refusals from 1 on
 refusals : List Refusal
@@ -19,12 +19,8 @@ refusals =
     UnresolvedLabel ∷ NotAscii ∷ TooManyLabels ∷ TooManyFixups ∷ ProgramFull ∷ FieldTooWide ∷
     BadBlock ∷ NotDecodable ∷ NoText ∷ []
 
--- the answer of a number
-answers : List Answer
-answers = Accepted ∷ map Refused refusals
-
-found : (r : Refusal) → get_or answers (number_of r) Accepted ≡ Refused r
-unfolding answers refusals
+found : (r : Refusal) → get_or refusals (pred (number_of r)) BadState ≡ r
+unfolding refusals
 found BadState = refl
 found FetchUnmapped = refl
 found AddressOverflow = refl
@@ -59,13 +55,18 @@ found BadBlock = refl
 found NotDecodable = refl
 found NoText = refl
 
-back : (a : Answer) → get_or answers (answer_number a) Accepted ≡ a
-unfolding answers
-back Accepted = refl
-back (Refused r) = found r
-
-pub answer-one : (a b : Answer) → answer_number a ≡ answer_number b → a ≡ b
-answer-one a b e = sym (back a) ∙ ap (λ (n : ℕ). get_or answers n Accepted) e ∙ back b
-
 pub number-one : (r q : Refusal) → number_of r ≡ number_of q → r ≡ q
-number-one r q e = let h = answer-one (Refused r) (Refused q) e in cc
+number-one r q e = sym (found r) ∙ ap (λ (n : ℕ). get_or refusals (pred n) BadState) e ∙ found q
+
+-- a refusal's number is not that of what is accepted
+pub not_accepted : {B : Type 0} (r : Refusal) → 0 ≡ number_of r → B
+unfolding refusals
+not_accepted r e =
+    let h : BadState ≡ r = ap (λ (n : ℕ). get_or refusals (pred n) BadState) e ∙ found r in
+    absurd (let z : 0 ≡ 1 = e ∙ sym (ap number_of h) in omega (arith, z))
+
+pub answer-one : (a b : Result ⊤ Refusal) → answer_number a ≡ answer_number b → a ≡ b
+answer-one (Ok a) (Ok b) e = refl
+answer-one (Ok a) (Err q) e = not_accepted q e
+answer-one (Err r) (Ok b) e = not_accepted r (sym e)
+answer-one (Err r) (Err q) e = ap Err (number-one r q e)

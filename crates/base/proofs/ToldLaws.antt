@@ -1,11 +1,15 @@
 -- A value is no refusal, and two that are told alike are one: constructors differ, and keep what they hold; and which numbers a
 -- refusal has. Assumes nothing.
-use mathlib.Core.Path.{◌≡◌}
+use mathlib.Core.Path.{◌≡◌, sym, ap}
 use mathlib.Core.Bool.{Bool, true, false}
 use Prim.Native.Nat.{ℕ, ◌≤◌}
 use native.Mathlib.Omega.{arith}
 use Rattle.base.specs.Choice.{cond}
-use Rattle.base.specs.Told.{Told, is, no, ◌>>=◌}
+use Rattle.std.specs.Prelude.{Result, Ok, Err}
+use Rattle.base.specs.Numbers.{number_of}
+use Rattle.base.specs.Told.{Told, is, no, told, ◌>>=◌}
+use Rattle.base.specs.declared.refusals.Refusal.{Refusal}
+use Rattle.base.proofs.Laws.{number-one}
 
 module _ {A : Type 0} where
   pub is-not-no : {B : Type 0} (a : A) (n : ℕ) → ◌≡◌ {A = Told A} (is a) (no n) → B
@@ -16,6 +20,13 @@ module _ {A : Type 0} where
 
   pub no_one : (n k : ℕ) → ◌≡◌ {A = Told A} (no n) (no k) → n ≡ k
   no_one n k e = cc
+
+-- two answers that are told alike are one
+pub told-one : {A : Type 0} (a b : Result A Refusal) → told a ≡ told b → a ≡ b
+told-one (Ok a) (Ok b) e = ap Ok (is_one a b e)
+told-one (Ok a) (Err q) e = is-not-no a (number_of q) e
+told-one (Err r) (Ok b) e = is-not-no b (number_of r) (sym e)
+told-one (Err r) (Err q) e = ap Err (number-one r q (no_one (number_of r) (number_of q) e))
 
 -- a refusal has one of these numbers
 abbrev pub Numbered : {A : Type 0} → ℕ → ℕ → Told A → Type 0

@@ -1,9 +1,7 @@
 -- The refusals' numbers, document 01's to 30 and document 02's from 31 on: the one place that says which refusal has which.
-use Rattle.std.specs.Prelude.{ℕ}
+use Rattle.std.specs.Prelude.{ℕ, Result, Ok, Err}
 use Rattle.base.specs.declared.refusals.Refusal.{Refusal}
 use Rattle.base.specs.declared.refusals.Refusal.TheVariants.{BadState, FetchUnmapped, AddressOverflow, BadOpcode, BadCompare, BadArith, ArithOverflow, DivideByZero, PcOverflow, NothingToUndo, BadJournal, RangeOverflow, Overlap, TableFull, WriteFailed, TooLong, NoDeviceRoom, BadRegister, NoRoom, InvalidRegister, InvalidOperands, InvalidInstruction, InvalidFormat, InvalidImmediate, UnresolvedLabel, NotAscii, TooManyLabels, TooManyFixups, ProgramFull, FieldTooWide, BadBlock, NotDecodable, NoText}
-use Rattle.base.specs.declared.refusals.Answer.{Answer}
-use Rattle.base.specs.declared.refusals.Answer.TheVariants.{Accepted, Refused}
 
 abbrev pub number_of : Refusal → ℕ
 number_of BadState = 1
@@ -41,6 +39,6 @@ number_of NotDecodable = 32
 number_of NoText = 33
 
 -- 0 where an entry accepts
-abbrev pub answer_number : Answer → ℕ
-answer_number Accepted = 0
-answer_number (Refused r) = number_of r
+abbrev pub answer_number : {A : Type 0} → Result A Refusal → ℕ
+answer_number (Ok a) = 0
+answer_number (Err r) = number_of r

@@ -7,7 +7,7 @@ mod counts;
 mod halves;
 mod refusals;
 
-pub use addresses::{Reached, base_plus_shift, raised_pc, second_address};
-pub use counts::{ByteAddress, InstructionIndex, byte_address};
+pub use addresses::{base_plus_shift, raised_pc, second_address};
+pub use counts::{ByteAddress, InstructionIndex};
 pub use halves::{high, low, word};
-pub use refusals::{Answer, Refusal, number};
+pub use refusals::Refusal;

@@ -2,7 +2,7 @@
 ghost use Rattle.std.specs.Prelude.{◌≡◌};
 ghost use Rattle.base.specs.Numbers.{number_of};
 
-#[derive(Clone, Copy)]
+#[derive(Clone, Copy, Debug, PartialEq, Eq)]
 pub enum Refusal {
     BadState,
     FetchUnmapped,
@@ -39,50 +39,46 @@ pub enum Refusal {
     NoText,
 }
 
-// What an entry that hands back nothing but its verdict answers.
-#[derive(Clone, Copy)]
-pub enum Answer {
-    Accepted,
-    Refused(Refusal),
-}
+// The number that the documents give a refusal. A match and no discriminants: those are never the same, so that the edit which
+// gives two refusals one number would not compile.
+impl From<Refusal> for u8 {
+    ghost from_gives = { λ r n. n ≡ number_of r };
 
-// The number that the documents give a refusal.
-pub fn number(r: Refusal) -> u8
-    ensures { result ≡ number_of r }
-{
-    match r {
-        Refusal::BadState => 1,
-        Refusal::FetchUnmapped => 2,
-        Refusal::AddressOverflow => 3,
-        Refusal::BadOpcode => 4,
-        Refusal::BadCompare => 5,
-        Refusal::BadArith => 6,
-        Refusal::ArithOverflow => 7,
-        Refusal::DivideByZero => 8,
-        Refusal::PcOverflow => 9,
-        Refusal::NothingToUndo => 10,
-        Refusal::BadJournal => 11,
-        Refusal::RangeOverflow => 12,
-        Refusal::Overlap => 13,
-        Refusal::TableFull => 14,
-        Refusal::WriteFailed => 15,
-        Refusal::TooLong => 16,
-        Refusal::NoDeviceRoom => 17,
-        Refusal::BadRegister => 18,
-        Refusal::NoRoom => 19,
-        Refusal::InvalidRegister => 20,
-        Refusal::InvalidOperands => 21,
-        Refusal::InvalidInstruction => 22,
-        Refusal::InvalidFormat => 23,
-        Refusal::InvalidImmediate => 24,
-        Refusal::UnresolvedLabel => 25,
-        Refusal::NotAscii => 26,
-        Refusal::TooManyLabels => 27,
-        Refusal::TooManyFixups => 28,
-        Refusal::ProgramFull => 29,
-        Refusal::FieldTooWide => 30,
-        Refusal::BadBlock => 31,
-        Refusal::NotDecodable => 32,
-        Refusal::NoText => 33,
+    fn from(r: Refusal) -> u8 {
+        match r {
+            Refusal::BadState => 1,
+            Refusal::FetchUnmapped => 2,
+            Refusal::AddressOverflow => 3,
+            Refusal::BadOpcode => 4,
+            Refusal::BadCompare => 5,
+            Refusal::BadArith => 6,
+            Refusal::ArithOverflow => 7,
+            Refusal::DivideByZero => 8,
+            Refusal::PcOverflow => 9,
+            Refusal::NothingToUndo => 10,
+            Refusal::BadJournal => 11,
+            Refusal::RangeOverflow => 12,
+            Refusal::Overlap => 13,
+            Refusal::TableFull => 14,
+            Refusal::WriteFailed => 15,
+            Refusal::TooLong => 16,
+            Refusal::NoDeviceRoom => 17,
+            Refusal::BadRegister => 18,
+            Refusal::NoRoom => 19,
+            Refusal::InvalidRegister => 20,
+            Refusal::InvalidOperands => 21,
+            Refusal::InvalidInstruction => 22,
+            Refusal::InvalidFormat => 23,
+            Refusal::InvalidImmediate => 24,
+            Refusal::UnresolvedLabel => 25,
+            Refusal::NotAscii => 26,
+            Refusal::TooManyLabels => 27,
+            Refusal::TooManyFixups => 28,
+            Refusal::ProgramFull => 29,
+            Refusal::FieldTooWide => 30,
+            Refusal::BadBlock => 31,
+            Refusal::NotDecodable => 32,
+            Refusal::NoText => 33,
+        }
     }
 }
