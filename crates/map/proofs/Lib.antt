@@ -1,10 +1,8 @@
 pub mod Scans
 pub mod DeviceScans
 pub mod DeviceLaws
-pub mod Entries
 pub mod PlaceLaws
 pub mod SoundLaws
 pub mod Laws
 pub mod KeptLaws
-pub mod AnswerLaws
 pub mod Orders

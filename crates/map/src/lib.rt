@@ -7,10 +7,9 @@ mod places;
 mod regions;
 mod tables;
 
-use base::Answer;
 pub use places::{is_linear_word, is_somewhere, place_of, target_of};
 pub use regions::is_protected;
-pub use tables::{add_region, empty, protect, refused, register_device, valid};
+pub use tables::{add_region, empty, protect, register_device, valid};
 
 // A protected region: the addresses from start on, len of them.
 #[derive(Clone, Copy)]
@@ -47,11 +46,4 @@ pub enum Place {
         index: usize,
     },
     Nowhere,
-}
-
-// An entry's verdict, and the map after it: as it was where the verdict is a refusal.
-#[derive(Clone, Copy)]
-pub struct Mapped {
-    pub answer: Answer,
-    pub map: Map,
 }

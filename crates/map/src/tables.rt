@@ -1,13 +1,13 @@
 // Both tables: when they are valid, and how an entry is added.
 ghost use Rattle.std.specs.Prelude.{◌≡◌};
-ghost use Rattle.base.specs.Numbers.{answer_number, number_of};
+ghost use Rattle.base.specs.Numbers.{answer_number};
 ghost use Rattle.map.specs.Valid.{valid_regions, valid_devices, valid};
 ghost use Rattle.map.specs.Entries.{empty_map, with_region, region_number, region_map, protect_number, protect_map, with_device, device_number, device_map, register_number, register_map};
 
 use crate::devices::{device_bytes, device_meets, device_size, devices_sound, spare_device_set};
 use crate::regions::{region_meets, regions_sound, spare_region_set};
-use crate::{Device, Map, Mapped, Region};
-use base::{Answer, Refusal};
+use crate::{Device, Map, Region};
+use base::Refusal;
 
 // No region and no device.
 pub fn empty() -> Map
@@ -63,88 +63,69 @@ pub fn valid(m: Map, dev: &[u8]) -> bool
     device_bytes(m) <= dev.len()
 }
 
-// A refusal, which leaves the map as it was.
-pub fn refused(r: Refusal, m: Map) -> Mapped
-    ensures answer_value { answer_number result.answer ≡ number_of r }
-    ensures map_value { result.map ≡ m }
-{
-    Mapped {
-        answer: Answer::Refused(r),
-        map: m,
-    }
-}
-
 // The region in the next entry, where it fits: 12, 13, 14. The tables are taken as they are.
-pub fn add_region(m: Map, r: Region) -> Mapped
-    ensures answer_value { answer_number result.answer ≡ region_number m r }
-    ensures map_value { result.map ≡ region_map m r }
+#[tactic(auto, unfolding(crate::specs::Entries::region_number, crate::specs::Entries::protect_order, crate::specs::Entries::region_map, crate::specs::Entries::with_region))]
+pub fn add_region(m: &mut Map, r: Region) -> Result<(), Refusal>
+    ensures answer_value { answer_number result ≡ region_number m.old r }
+    ensures map_value { m.new ≡ region_map m.old r }
 {
     if 65535 - r.start < r.len {
-        return refused(Refusal::RangeOverflow, m);
+        return Err(Refusal::RangeOverflow);
     }
-    if region_meets(m, 0, r) {
-        return refused(Refusal::Overlap, m);
+    if region_meets(*m, 0, r) {
+        return Err(Refusal::Overlap);
     }
     let n = m.regions as usize;
     if 8 <= n {
-        return refused(Refusal::TableFull, m);
+        return Err(Refusal::TableFull);
     }
-    let mut next = m;
-    next.region[n] = r;
-    next.regions = m.regions + 1;
-    Mapped {
-        answer: Answer::Accepted,
-        map: next,
-    }
+    m.region[n] = r;
+    m.regions += 1;
+    Ok(())
 }
 
 // Protects the addresses from start on, len of them.
-pub fn protect(m: Map, dev: &[u8], start: u16, len: u16) -> Mapped
-    ensures answer_value { answer_number result.answer ≡ protect_number m dev.now start len }
-    ensures map_value { result.map ≡ protect_map m dev.now start len }
+#[tactic(auto, unfolding(crate::specs::Entries::protect_number, crate::specs::Entries::protect_map, crate::specs::Entries::region_number, crate::specs::Entries::region_map))]
+pub fn protect(m: &mut Map, dev: &[u8], start: u16, len: u16) -> Result<(), Refusal>
+    ensures answer_value { answer_number result ≡ protect_number m.old dev.now start len }
+    ensures map_value { m.new ≡ protect_map m.old dev.now start len }
 {
-    if !valid(m, dev) {
-        return refused(Refusal::BadState, m);
+    if !valid(*m, dev) {
+        return Err(Refusal::BadState);
     }
     add_region(m, Region { start, len })
 }
 
 // The device in the next entry, where it fits: 13, 14, 17. The tables are taken as they are.
-fn add_device(m: Map, room: usize, d: Device) -> Mapped
-    ensures answer_value { answer_number result.answer ≡ device_number m room d }
-    ensures map_value { result.map ≡ device_map m room d }
+#[tactic(auto, unfolding(crate::specs::Entries::device_number, crate::specs::Entries::device_order, crate::specs::Entries::device_map, crate::specs::Entries::with_device))]
+fn add_device(m: &mut Map, room: usize, d: Device) -> Result<(), Refusal>
+    ensures answer_value { answer_number result ≡ device_number m.old room d }
+    ensures map_value { m.new ≡ device_map m.old room d }
 {
-    if device_meets(m, 0, d) {
-        return refused(Refusal::Overlap, m);
+    if device_meets(*m, 0, d) {
+        return Err(Refusal::Overlap);
     }
     let n = m.devices as usize;
     if 8 <= n {
-        return refused(Refusal::TableFull, m);
+        return Err(Refusal::TableFull);
     }
-    let sum = device_bytes(m) + device_size(d);
-    if room < sum {
-        return refused(Refusal::NoDeviceRoom, m);
+    if room < device_bytes(*m) + device_size(d) {
+        return Err(Refusal::NoDeviceRoom);
     }
-    let mut next = m;
-    next.device[n] = d;
-    next.devices = m.devices + 1;
-    Mapped {
-        answer: Answer::Accepted,
-        map: next,
-    }
+    m.device[n] = d;
+    m.devices += 1;
+    Ok(())
 }
 
 // A new device over the addresses from start on, size of them, with the next size bytes of the device buffer.
-pub fn register_device(m: Map, dev: &[u8], start: u16, size: u16) -> Mapped
-    ensures answer_value { answer_number result.answer ≡ register_number m dev.now start size }
-    ensures map_value { result.map ≡ register_map m dev.now start size }
+#[tactic(auto, unfolding(crate::specs::Entries::register_number, crate::specs::Entries::register_map, crate::specs::Entries::device_number, crate::specs::Entries::device_map, crate::specs::Entries::device_order))]
+pub fn register_device(m: &mut Map, dev: &[u8], start: u16, size: u16) -> Result<(), Refusal>
+    ensures answer_value { answer_number result ≡ register_number m.old dev.now start size }
+    ensures map_value { m.new ≡ register_map m.old dev.now start size }
 {
-    if !valid(m, dev) {
-        return refused(Refusal::BadState, m);
+    if !valid(*m, dev) {
+        return Err(Refusal::BadState);
     }
-    if 65535 - start < size {
-        return refused(Refusal::RangeOverflow, m);
-    }
-    let end = start + size;
+    let end = start.checked_add(size).ok_or(Refusal::RangeOverflow)?;
     add_device(m, dev.len(), Device { start, end })
 }
