@@ -3,6 +3,5 @@ pub mod EncodedLaws
 pub mod DecodedLaws
 pub mod OpcodeLaws
 pub mod RoundTrip
-pub mod AnswerLaws
 pub mod EditionLaws
 pub mod MaskLaws

@@ -1,7 +1,6 @@
 -- What a word says, by its low four bits. Bits not named are ignored; register-mode 5 decodes to Jmp.
 use Rattle.std.specs.Prelude.{ℕ, ◌+◌, Bool, true, false, List, [], ◌∷◌, get_or, eqb, ltb}
 use Rattle.base.specs.Choice.{cond}
-use Rattle.base.specs.Numbers.{number_of}
 use Rattle.base.specs.Told.{Told, is, no}
 use Rattle.fields.specs.Fields.{field_of}
 use Rattle.instruction.specs.Codes.{register_of, arith_of, arithmetic_of, compare_of}
@@ -10,13 +9,6 @@ use Rattle.instruction.specs.declared.Operand.{Operand}
 use Rattle.instruction.specs.declared.Operand.TheVariants.{Reg, Imm}
 use Rattle.instruction.specs.declared.Instruction.{Instruction}
 use Rattle.instruction.specs.declared.Instruction.TheVariants.{Noop, Mov, MovShift, Arith, ArithRegReg, LdrStr, LdbStb, Cpy, Jmp, CondJmp, Cmp, CallRet}
-use Rattle.instruction.specs.declared.Decoded.{Decoded}
-use Rattle.instruction.specs.declared.Decoded.TheVariants.{Ok, Refused}
-
--- what the function answers, in document 01's numbers
-abbrev pub told : Decoded → Told Instruction
-told (Ok i) = is i
-told (Refused r) = no (number_of r)
 
 -- the register in the three bits from `at` on
 abbrev pub register_at : ℕ → ℕ → Register

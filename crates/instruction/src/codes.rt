@@ -67,57 +67,35 @@ pub fn compare_of(n: u16) -> CompareOp
     }
 }
 
-// The bound is said apart, for callers that index eight registers.
-pub fn register_code(r: Register) -> u16
-    ensures value { result ≡ register_code r }
-    ensures upper_bound { result < 8 }
-{
-    match r {
-        Register::A => 0,
-        Register::B => 1,
-        Register::C => 2,
-        Register::M => 3,
-        Register::SP => 4,
-        Register::PC => 5,
-        Register::BP => 6,
-        Register::FLAGS => 7,
+// The bound is said beside the number, for callers that index eight registers.
+impl From<Register> for u16 {
+    ghost from_gives = { λ r n. (n ≡ register_code r) × (n < 8) };
+
+    fn from(r: Register) -> u16 {
+        r as u16
     }
 }
 
-pub fn arith_code(k: ArithOp) -> u16
-    ensures { result ≡ arith_code k }
-{
-    match k {
-        ArithOp::Add => 0,
-        ArithOp::Sub => 1,
-        ArithOp::Mul => 2,
-        ArithOp::Div => 3,
+impl From<ArithOp> for u16 {
+    ghost from_gives = { λ k n. n ≡ arith_code k };
+
+    fn from(k: ArithOp) -> u16 {
+        k as u16
     }
 }
 
-pub fn arithmetic_code(k: ArithmeticOp) -> u16
-    ensures { result ≡ arithmetic_code k }
-{
-    match k {
-        ArithmeticOp::Add => 0,
-        ArithmeticOp::Sub => 1,
-        ArithmeticOp::Mul => 2,
-        ArithmeticOp::Div => 3,
-        ArithmeticOp::Mod => 4,
-        ArithmeticOp::Exp => 5,
-        ArithmeticOp::Sqrt => 6,
+impl From<ArithmeticOp> for u16 {
+    ghost from_gives = { λ k n. n ≡ arithmetic_code k };
+
+    fn from(k: ArithmeticOp) -> u16 {
+        k as u16
     }
 }
 
-pub fn compare_code(k: CompareOp) -> u16
-    ensures { result ≡ compare_code k }
-{
-    match k {
-        CompareOp::Eq => 0,
-        CompareOp::NotEq => 1,
-        CompareOp::Less => 2,
-        CompareOp::LessEq => 3,
-        CompareOp::Greater => 4,
-        CompareOp::GreaterEq => 5,
+impl From<CompareOp> for u16 {
+    ghost from_gives = { λ k n. n ≡ compare_code k };
+
+    fn from(k: CompareOp) -> u16 {
+        k as u16
     }
 }

@@ -2,10 +2,11 @@
 // The kinds of field are public for the machine, which acts on a word without making an Instruction of it.
 ghost use Rattle.std.specs.Prelude.{◌≡◌, ◌<◌, ◌≤◌};
 ghost use Rattle.fields.specs.Fields.{field_of};
-ghost use Rattle.instruction.specs.Decode.{told, register_at, bit_at, operand_at, jumps_always, arm, decode};
+ghost use Rattle.base.specs.Told.{told};
+ghost use Rattle.instruction.specs.Decode.{register_at, bit_at, operand_at, jumps_always, arm, decode};
 
 use crate::codes::{arith_of, arithmetic_of, compare_of, register_of};
-use crate::{Decoded, Instruction, Operand, Register};
+use crate::{Instruction, Operand, Register};
 use base::Refusal;
 use fields::field;
 
@@ -45,16 +46,16 @@ pub fn operand_at(w: u16, at: usize, width: usize) -> Operand
     }
 }
 
-fn mov(w: u16) -> Decoded
+fn mov(w: u16) -> Result<Instruction, Refusal>
     ensures { told result ≡ arm w 1 }
 {
-    Decoded::Ok(Instruction::Mov(register_at(w, 4), operand_at(w, 7, 8)))
+    Ok(Instruction::Mov(register_at(w, 4), operand_at(w, 7, 8)))
 }
 
-fn mov_shift(w: u16) -> Decoded
+fn mov_shift(w: u16) -> Result<Instruction, Refusal>
     ensures { told result ≡ arm w 2 }
 {
-    Decoded::Ok(Instruction::MovShift(
+    Ok(Instruction::MovShift(
         register_at(w, 4),
         byte_at(w, 7, 3),
         bit_at(w, 10),
@@ -62,20 +63,20 @@ fn mov_shift(w: u16) -> Decoded
     ))
 }
 
-fn arith(w: u16) -> Decoded
+fn arith(w: u16) -> Result<Instruction, Refusal>
     ensures { told result ≡ arm w 3 }
 {
-    Decoded::Ok(Instruction::Arith(
+    Ok(Instruction::Arith(
         register_at(w, 4),
         operand_at(w, 9, 6),
         arith_of(field(w, 7, 2)),
     ))
 }
 
-fn ldr_str(w: u16) -> Decoded
+fn ldr_str(w: u16) -> Result<Instruction, Refusal>
     ensures { told result ≡ arm w 4 }
 {
-    Decoded::Ok(Instruction::LdrStr(
+    Ok(Instruction::LdrStr(
         register_at(w, 4),
         register_at(w, 7),
         bit_at(w, 10),
@@ -93,39 +94,39 @@ pub fn jumps_always(o: Operand) -> bool
     }
 }
 
-fn cond_jmp(w: u16) -> Decoded
+fn cond_jmp(w: u16) -> Result<Instruction, Refusal>
     ensures { told result ≡ arm w 5 }
 {
     let o = operand_at(w, 4, 11);
     if jumps_always(o) {
-        Decoded::Ok(Instruction::Jmp(o))
+        Ok(Instruction::Jmp(o))
     } else {
-        Decoded::Ok(Instruction::CondJmp(o))
+        Ok(Instruction::CondJmp(o))
     }
 }
 
-fn jmp(w: u16) -> Decoded
+fn jmp(w: u16) -> Result<Instruction, Refusal>
     ensures { told result ≡ arm w 6 }
 {
-    Decoded::Ok(Instruction::Jmp(operand_at(w, 4, 11)))
+    Ok(Instruction::Jmp(operand_at(w, 4, 11)))
 }
 
 // Six comparisons have a number; 6 and 7 are none.
-fn cmp(w: u16) -> Decoded
+fn cmp(w: u16) -> Result<Instruction, Refusal>
     ensures { told result ≡ arm w 7 }
 {
     let k = field(w, 7, 3);
     if k < 6 {
-        Decoded::Ok(Instruction::Cmp(register_at(w, 4), operand_at(w, 10, 5), compare_of(k)))
+        Ok(Instruction::Cmp(register_at(w, 4), operand_at(w, 10, 5), compare_of(k)))
     } else {
-        Decoded::Refused(Refusal::BadCompare)
+        Err(Refusal::BadCompare)
     }
 }
 
-fn ldb_stb(w: u16) -> Decoded
+fn ldb_stb(w: u16) -> Result<Instruction, Refusal>
     ensures { told result ≡ arm w 8 }
 {
-    Decoded::Ok(Instruction::LdbStb(
+    Ok(Instruction::LdbStb(
         register_at(w, 4),
         register_at(w, 7),
         bit_at(w, 10),
@@ -133,40 +134,40 @@ fn ldb_stb(w: u16) -> Decoded
     ))
 }
 
-fn cpy(w: u16) -> Decoded
+fn cpy(w: u16) -> Result<Instruction, Refusal>
     ensures { told result ≡ arm w 9 }
 {
-    Decoded::Ok(Instruction::Cpy(register_at(w, 4), register_at(w, 7)))
+    Ok(Instruction::Cpy(register_at(w, 4), register_at(w, 7)))
 }
 
 // Seven operators have a number; 7 is none.
-fn arith_reg_reg(w: u16) -> Decoded
+fn arith_reg_reg(w: u16) -> Result<Instruction, Refusal>
     ensures { told result ≡ arm w 10 }
 {
     let k = field(w, 7, 3);
     if k < 7 {
-        Decoded::Ok(Instruction::ArithRegReg(
+        Ok(Instruction::ArithRegReg(
             register_at(w, 4),
             register_at(w, 10),
             register_at(w, 13),
             arithmetic_of(k),
         ))
     } else {
-        Decoded::Refused(Refusal::BadArith)
+        Err(Refusal::BadArith)
     }
 }
 
-fn call_ret(w: u16) -> Decoded
+fn call_ret(w: u16) -> Result<Instruction, Refusal>
     ensures { told result ≡ arm w 11 }
 {
-    Decoded::Ok(Instruction::CallRet(bit_at(w, 4), field(w, 5, 11)))
+    Ok(Instruction::CallRet(bit_at(w, 4), field(w, 5, 11)))
 }
 
-pub fn decode(w: u16) -> Decoded
+pub fn decode(w: u16) -> Result<Instruction, Refusal>
     ensures { told result ≡ decode w }
 {
     match field(w, 0, 4) {
-        0 => Decoded::Ok(Instruction::Noop),
+        0 => Ok(Instruction::Noop),
         1 => mov(w),
         2 => mov_shift(w),
         3 => arith(w),
@@ -178,6 +179,6 @@ pub fn decode(w: u16) -> Decoded
         9 => cpy(w),
         10 => arith_reg_reg(w),
         11 => call_ret(w),
-        _ => Decoded::Refused(Refusal::BadOpcode),
+        _ => Err(Refusal::BadOpcode),
     }
 }

@@ -5,7 +5,6 @@ ghost use Rattle.fields.specs.Fields.{place_of};
 ghost use Rattle.instruction.specs.Encode.{register_in, bit, mode, value, encode};
 ghost use Rattle.instruction.specs.declared.Instruction.TheVariants.{Mov, MovShift, Arith, ArithRegReg, Cpy, Cmp, CallRet};
 
-use crate::codes::{arith_code, arithmetic_code, compare_code, register_code};
 use crate::{ArithOp, ArithmeticOp, CompareOp, Instruction, Operand, Register};
 use fields::place;
 
@@ -30,7 +29,7 @@ fn value_of(o: Operand) -> u16
     ensures { result ≡ value o }
 {
     match o {
-        Operand::Reg(r) => register_code(r),
+        Operand::Reg(r) => u16::from(r),
         Operand::Imm(v) => v,
     }
 }
@@ -38,13 +37,13 @@ fn value_of(o: Operand) -> u16
 fn mov_word(d: Register, o: Operand) -> u16
     ensures { result ≡ encode (Mov d o) }
 {
-    1 + place(register_code(d), 4, 3) + place(mode_of(o), 7, 1) + place(value_of(o), 8, 8)
+    1 + place(u16::from(d), 4, 3) + place(mode_of(o), 7, 1) + place(value_of(o), 8, 8)
 }
 
 fn mov_shift_word(r: Register, amount: u8, left: bool, v: u16) -> u16
     ensures { result ≡ encode (MovShift r amount left v) }
 {
-    2 + place(register_code(r), 4, 3)
+    2 + place(u16::from(r), 4, 3)
         + place(amount as u16, 7, 3)
         + place(bit_of(left), 10, 1)
         + place(v, 11, 5)
@@ -53,8 +52,8 @@ fn mov_shift_word(r: Register, amount: u8, left: bool, v: u16) -> u16
 fn arith_word(d: Register, o: Operand, k: ArithOp) -> u16
     ensures { result ≡ encode (Arith d o k) }
 {
-    3 + place(register_code(d), 4, 3)
-        + place(arith_code(k), 7, 2)
+    3 + place(u16::from(d), 4, 3)
+        + place(u16::from(k), 7, 2)
         + place(mode_of(o), 9, 1)
         + place(value_of(o), 10, 6)
 }
@@ -64,8 +63,8 @@ fn transfer_word(op: u16, r: Register, a: Register, store: bool, shift: u8) -> u
     requires { op < 16 }
     ensures { result ≡ op + register_in r 4 + register_in a 7 + place_of (bit store) 10 1 + place_of shift 11 5 }
 {
-    op + place(register_code(r), 4, 3)
-        + place(register_code(a), 7, 3)
+    op + place(u16::from(r), 4, 3)
+        + place(u16::from(a), 7, 3)
         + place(bit_of(store), 10, 1)
         + place(shift as u16, 11, 5)
 }
@@ -81,8 +80,8 @@ fn jump_word(op: u16, o: Operand) -> u16
 fn cmp_word(r: Register, o: Operand, k: CompareOp) -> u16
     ensures { result ≡ encode (Cmp r o k) }
 {
-    7 + place(register_code(r), 4, 3)
-        + place(compare_code(k), 7, 3)
+    7 + place(u16::from(r), 4, 3)
+        + place(u16::from(k), 7, 3)
         + place(mode_of(o), 10, 1)
         + place(value_of(o), 11, 5)
 }
@@ -90,16 +89,16 @@ fn cmp_word(r: Register, o: Operand, k: CompareOp) -> u16
 fn cpy_word(s: Register, t: Register) -> u16
     ensures { result ≡ encode (Cpy s t) }
 {
-    9 + place(register_code(s), 4, 3) + place(register_code(t), 7, 3)
+    9 + place(u16::from(s), 4, 3) + place(u16::from(t), 7, 3)
 }
 
 fn arith_reg_reg_word(d: Register, a: Register, b: Register, k: ArithmeticOp) -> u16
     ensures { result ≡ encode (ArithRegReg d a b k) }
 {
-    10 + place(register_code(d), 4, 3)
-        + place(arithmetic_code(k), 7, 3)
-        + place(register_code(a), 10, 3)
-        + place(register_code(b), 13, 3)
+    10 + place(u16::from(d), 4, 3)
+        + place(u16::from(k), 7, 3)
+        + place(u16::from(a), 10, 3)
+        + place(u16::from(b), 13, 3)
 }
 
 fn call_ret_word(ret: bool, address: u16) -> u16

@@ -8,15 +8,14 @@ mod encoder;
 mod forms;
 mod widths;
 
-use base::Refusal;
-pub use codes::{arith_of, arithmetic_of, compare_of, register_code};
+pub use codes::{arith_of, arithmetic_of, compare_of};
 pub use decoder::{bit_at, byte_at, decode, jumps_always, operand_at, register_at};
 pub use editions::decode_in;
 pub use encoder::encode;
 pub use forms::{decodable, sayable};
 pub use widths::fits;
 
-#[derive(Clone, Copy)]
+#[derive(Clone, Copy, Debug, PartialEq, Eq)]
 pub enum Register {
     A,
     B,
@@ -31,14 +30,14 @@ pub enum Register {
 }
 
 // Where an instruction takes its number from.
-#[derive(Clone, Copy)]
+#[derive(Clone, Copy, Debug, PartialEq, Eq)]
 pub enum Operand {
     Reg(Register),
     Imm(u16),
 }
 
 // The four operators of Arith.
-#[derive(Clone, Copy)]
+#[derive(Clone, Copy, Debug, PartialEq, Eq)]
 pub enum ArithOp {
     Add,
     Sub,
@@ -47,7 +46,7 @@ pub enum ArithOp {
 }
 
 // The seven of ArithRegReg.
-#[derive(Clone, Copy)]
+#[derive(Clone, Copy, Debug, PartialEq, Eq)]
 pub enum ArithmeticOp {
     Add,
     Sub,
@@ -58,7 +57,7 @@ pub enum ArithmeticOp {
     Sqrt,
 }
 
-#[derive(Clone, Copy)]
+#[derive(Clone, Copy, Debug, PartialEq, Eq)]
 pub enum CompareOp {
     Eq,
     NotEq,
@@ -68,7 +67,7 @@ pub enum CompareOp {
     GreaterEq,
 }
 
-#[derive(Clone, Copy)]
+#[derive(Clone, Copy, Debug, PartialEq, Eq)]
 pub enum Instruction {
     Noop,
     // destination, source
@@ -94,15 +93,8 @@ pub enum Instruction {
 
 // Document 02 names a second edition of the instruction set. Machine and listing go by the first; source text for words goes by the
 // second, because a line can say what the first edition's decoder does not: CJP to a register.
-#[derive(Clone, Copy)]
+#[derive(Clone, Copy, Debug, PartialEq, Eq)]
 pub enum Edition {
     First,
     Second,
-}
-
-// What decoding a word answers.
-#[derive(Clone, Copy)]
-pub enum Decoded {
-    Ok(Instruction),
-    Refused(Refusal),
 }
