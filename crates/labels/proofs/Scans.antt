@@ -5,8 +5,8 @@ use mathlib.Core.Bool.{true, false}
 use mathlib.Core.List.{List}
 use lib.ListN.{length, get_or, drop, drop_of_length-le}
 use Rattle.labels.specs.declared.Label.{Label}
-use Rattle.labels.specs.declared.Found.TheVariants.{Nothing, At}
-use Rattle.labels.specs.Labels.{is_named, find_from, find}
+use Rattle.std.specs.Prelude.{Option, Some, None}
+use Rattle.labels.specs.Labels.{is_named, found_at, find_from, find}
 use Rattle.labels.proofs.ListLaws.{drop-next}
 
 module _ (text name : List ℕ) (ls : List Label) where
@@ -15,7 +15,7 @@ module _ (text name : List ℕ) (ls : List Label) where
   scan-start = refl
 
   module _ (i : ℕ) (d : Label) where
-    pub scan-hit : i < length ls → is_named text name (get_or ls i d) ≡ true → find_from text name i (drop i ls) ≡ At i (get_or ls i d).address
+    pub scan-hit : i < length ls → is_named text name (get_or ls i d) ≡ true → find_from text name i (drop i ls) ≡ Some (found_at i (get_or ls i d).address)
     unfolding find_from
     scan-hit h e = rw (drop-next ls i d h, e)
 
@@ -23,6 +23,6 @@ module _ (text name : List ℕ) (ls : List Label) where
     unfolding find_from
     scan-miss h e = rw (drop-next ls i d h, e)
 
-  pub scan-end : (i : ℕ) → length ls ≤ i → find_from text name i (drop i ls) ≡ Nothing
+  pub scan-end : (i : ℕ) → length ls ≤ i → find_from text name i (drop i ls) ≡ None
   unfolding find_from
   scan-end i h = rw (drop_of_length-le ls h)

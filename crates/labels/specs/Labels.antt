@@ -1,10 +1,9 @@
 -- The label table: entries of place, length and byte address.
-use Rattle.std.specs.Prelude.{ℕ, ◌+◌, List, [], ◌∷◌, Bool, false, length, take, drop, leb}
+use Rattle.std.specs.Prelude.{ℕ, ◌+◌, List, [], ◌∷◌, Bool, false, Option, Some, None, length, take, drop, leb}
 use Rattle.base.specs.Choice.{cond}
 use Rattle.base.specs.Bytes.{same}
 use Rattle.labels.specs.declared.Label.{Label}
 use Rattle.labels.specs.declared.Found.{Found}
-use Rattle.labels.specs.declared.Found.TheVariants.{Nothing, At}
 
 abbrev pub label : ℕ → ℕ → ℕ → Label
 label place size address = record { place = place; length = size; address = address }
@@ -20,10 +19,14 @@ names text place size name = cond (leb (place + size) (length text)) (same (take
 abbrev pub is_named : List ℕ → List ℕ → Label → Bool
 is_named text name l = names text l.place l.length name
 
--- the first of equal names counts, and gives its address; the first of these entries is entry i
-unfoldable pub find_from : List ℕ → List ℕ → ℕ → List Label → Found
-find_from text name i [] = Nothing
-find_from text name i (l ∷ ls) = cond (is_named text name l) (At i l.address) (find_from text name (i + 1) ls)
+-- entry i, with its address
+abbrev pub found_at : ℕ → ℕ → Found
+found_at i a = record { index = i; address = a }
 
-unfoldable pub find : List ℕ → List ℕ → List Label → Found
+-- the first of equal names counts, and gives its address; the first of these entries is entry i
+unfoldable pub find_from : List ℕ → List ℕ → ℕ → List Label → Option Found
+find_from text name i [] = None
+find_from text name i (l ∷ ls) = cond (is_named text name l) (Some (found_at i l.address)) (find_from text name (i + 1) ls)
+
+unfoldable pub find : List ℕ → List ℕ → List Label → Option Found
 find text name ls = find_from text name 0 ls
