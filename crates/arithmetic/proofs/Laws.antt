@@ -1,6 +1,6 @@
 -- What the crates above may use: the root is the one r with r*r <= v < (r+1)*(r+1), since squares grow; and every result has
 -- sixteen bits, since it is fitted to them or no larger than the first number. Assumes nothing.
-use mathlib.Core.Path.{◌≡◌, refl, sym, ap, subst⁻¹}
+use mathlib.Core.Path.{◌≡◌, refl, subst⁻¹}
 use mathlib.Core.Bool.{Bool, true, false}
 use Prim.Native.Nat.{ℕ, zero, suc, ◌+◌, ◌-◌, ◌*◌, ◌/◌, ◌%◌, ◌^◌, ◌<◌, ◌≤◌, zero-le}
 use native.Mathlib.Nat.{mul-le-mul, le_antisymm, le_refl, le_trans, le-suc, lt_of_le_of_lt, sub-le, div-le_self, mod-le, mod-lt}
@@ -12,17 +12,12 @@ use lib.Pow.{shr_le}
 use borrow.Author.Tests.{leb-true, leb-false}
 use Rattle.base.proofs.ToldLaws.{Numbered, or-numbered, first-numbered}
 use Rattle.base.specs.Choice.{cond}
-use Rattle.base.specs.Numbers.{number_of}
-use Rattle.base.proofs.Laws.{number-one}
-use Rattle.base.proofs.ToldLaws.{is-not-no, is_one, no_one}
 use Rattle.base.specs.Told.{is, no}
 use Rattle.instruction.specs.declared.ArithOp.{ArithOp}
 use Rattle.instruction.specs.declared.ArithOp.TheVariants as four
 use Rattle.instruction.specs.declared.ArithmeticOp.{ArithmeticOp}
 use Rattle.instruction.specs.declared.ArithmeticOp.TheVariants as seven
-use Rattle.arithmetic.specs.declared.Total.{Total}
-use Rattle.arithmetic.specs.declared.Total.TheVariants.{Is, Refused}
-use Rattle.arithmetic.specs.Totals.{total, fitted, sum, difference, product, quotient, remainder, power}
+use Rattle.arithmetic.specs.Totals.{fitted, sum, difference, product, quotient, remainder, power}
 use Rattle.arithmetic.specs.Operators.{arith_result, arithmetic_result}
 use Rattle.arithmetic.specs.Shifts.{shifted, moved}
 use Rattle.arithmetic.specs.Roots.{root_up_to, root}
@@ -66,6 +61,9 @@ root_is v h = up_to 255 v h
 -- and there is no other
 pub root-one : (v r : ℕ) → v < 65536 → IsRoot v r → r ≡ root v
 root-one v r h a = roots-same v r (root v) a (root_is v h)
+
+pub root_found : (v r : ℕ) → v < 65536 → r * r ≤ v → v < (r + 1) * (r + 1) → r ≡ root v
+root_found v r h l g = root-one v r h (record { low = l; high = g })
 
 pub root-marked : (root 65024 ≡ 254) × (root 65025 ≡ 255)
 unfolding root root_up_to
@@ -167,14 +165,6 @@ shifted_fits v amount false h = lt_of_le_of_lt (shr_le v amount) h
 pub moved-fits : (v amount : ℕ) (left : Bool) (imm : ℕ) → v < 65536 → imm < 65536 → moved v amount left imm < 65536
 unfolding moved
 moved-fits v amount left imm h k = or_lt 16 (shifted v amount left) imm (shifted_fits v amount left h) k
-
--- ---- two answers with one value, or one number, are one answer
-
-pub total-one : (a b : Total) → total a ≡ total b → a ≡ b
-total-one (Is n) (Is k) e = ap Is (is_one n k e)
-total-one (Is n) (Refused r) e = is-not-no n (number_of r) e
-total-one (Refused r) (Is n) e = is-not-no n (number_of r) (sym e)
-total-one (Refused r) (Refused q) e = ap Refused (number-one r q (no_one (number_of r) (number_of q) e))
 
 -- ---- 7 or 8
 

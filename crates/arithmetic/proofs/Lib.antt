@@ -1,5 +1,4 @@
-pub mod Powers
-pub mod Products
+pub mod Checked
 pub mod Lost
 pub mod Laws
 pub mod FlagLaws

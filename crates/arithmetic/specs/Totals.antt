@@ -1,15 +1,7 @@
 -- 7, ArithOverflow: the true result is outside 0 to 65,535. 8, DivideByZero.
 use Rattle.std.specs.Prelude.{ℕ, ◌+◌, ◌-◌, ◌*◌, ◌/◌, ◌%◌, ◌^◌, eqb, leb}
 use Rattle.base.specs.Choice.{cond}
-use Rattle.base.specs.Numbers.{number_of}
 use Rattle.base.specs.Told.{Told, is, no}
-use Rattle.arithmetic.specs.declared.Total.{Total}
-use Rattle.arithmetic.specs.declared.Total.TheVariants.{Is, Refused}
-
--- an answer's value, or its number
-abbrev pub total : Total → Told ℕ
-total (Is v) = is v
-total (Refused r) = no (number_of r)
 
 -- a true result, where it fits
 unfoldable pub fitted : ℕ → Told ℕ

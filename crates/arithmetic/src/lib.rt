@@ -8,17 +8,9 @@ mod roots;
 mod shifts;
 mod totals;
 
-use base::Refusal;
 pub use compares::compare;
 pub use flags::{compared, failed, flag};
 pub use operators::{arith, arithmetic};
 pub use roots::root;
 pub use shifts::moved;
 pub use totals::{difference, power, product, quotient, remainder, sum};
-
-// What an operation comes to: a number of sixteen bits, or the refusal.
-#[derive(Clone, Copy)]
-pub enum Total {
-    Is(u16),
-    Refused(Refusal),
-}

@@ -1,16 +1,16 @@
 // The operators of the two arithmetic instructions.
 ghost use Rattle.std.specs.Prelude.{◌≡◌};
-ghost use Rattle.arithmetic.specs.Totals.{total};
+ghost use Rattle.base.specs.Told.{told};
 ghost use Rattle.arithmetic.specs.Operators.{arith_result, arithmetic_result};
 
-use crate::Total;
 use crate::roots::root;
 use crate::totals::{difference, power, product, quotient, remainder, sum};
+use base::Refusal;
 use instruction::{ArithOp, ArithmeticOp};
 
 // Arith's.
-pub fn arith(op: ArithOp, a: u16, b: u16) -> Total
-    ensures { total result ≡ arith_result op a b }
+pub fn arith(op: ArithOp, a: u16, b: u16) -> Result<u16, Refusal>
+    ensures { told result ≡ arith_result op a b }
 {
     match op {
         ArithOp::Add => sum(a, b),
@@ -21,8 +21,8 @@ pub fn arith(op: ArithOp, a: u16, b: u16) -> Total
 }
 
 // ArithRegReg's. A root is of the first number, and ignores the second.
-pub fn arithmetic(op: ArithmeticOp, a: u16, b: u16) -> Total
-    ensures { total result ≡ arithmetic_result op a b }
+pub fn arithmetic(op: ArithmeticOp, a: u16, b: u16) -> Result<u16, Refusal>
+    ensures { told result ≡ arithmetic_result op a b }
 {
     match op {
         ArithmeticOp::Add => sum(a, b),
@@ -31,6 +31,6 @@ pub fn arithmetic(op: ArithmeticOp, a: u16, b: u16) -> Total
         ArithmeticOp::Div => quotient(a, b),
         ArithmeticOp::Mod => remainder(a, b),
         ArithmeticOp::Exp => power(a, b),
-        ArithmeticOp::Sqrt => Total::Is(root(a)),
+        ArithmeticOp::Sqrt => Ok(root(a)),
     }
 }

@@ -1,79 +1,49 @@
-// Sums, differences, products, quotients, remainders and powers. Whether a true result fits is decided in one function.
+// Sums, differences, products, quotients, remainders and powers: the true result where a number of sixteen bits has room for it,
+// else the refusal.
 ghost use Rattle.std.specs.Prelude.{◌≡◌};
-ghost use Rattle.arithmetic.specs.Totals.{total, fitted, sum, difference, product, quotient, remainder, power};
+ghost use Rattle.base.specs.Told.{told};
+ghost use Rattle.arithmetic.specs.Totals.{sum, difference, product, quotient, remainder, power};
 
-use crate::Total;
 use base::Refusal;
 
-#[tactic(auto, unfolding(crate::specs::Totals::fitted))]
-fn fit(n: u32) -> Total
-    ensures { total result ≡ fitted n }
+#[tactic(auto, using(crate::proofs::Checked::checked), unfolding(crate::specs::Totals::sum))]
+pub fn sum(a: u16, b: u16) -> Result<u16, Refusal>
+    ensures { told result ≡ sum a b }
 {
-    if n <= 65535 {
-        Total::Is(n as u16)
-    } else {
-        Total::Refused(Refusal::ArithOverflow)
-    }
+    a.checked_add(b).ok_or(Refusal::ArithOverflow)
 }
 
-pub fn sum(a: u16, b: u16) -> Total
-    ensures { total result ≡ sum a b }
+#[tactic(auto, using(crate::proofs::Checked::checked_difference), unfolding(crate::specs::Totals::difference))]
+pub fn difference(a: u16, b: u16) -> Result<u16, Refusal>
+    ensures { told result ≡ difference a b }
 {
-    fit(a as u32 + b as u32)
+    a.checked_sub(b).ok_or(Refusal::ArithOverflow)
 }
 
-pub fn difference(a: u16, b: u16) -> Total
-    ensures { total result ≡ difference a b }
+#[tactic(auto, using(crate::proofs::Checked::checked), unfolding(crate::specs::Totals::product))]
+pub fn product(a: u16, b: u16) -> Result<u16, Refusal>
+    ensures { told result ≡ product a b }
 {
-    if b <= a {
-        Total::Is(a - b)
-    } else {
-        Total::Refused(Refusal::ArithOverflow)
-    }
+    a.checked_mul(b).ok_or(Refusal::ArithOverflow)
 }
 
-pub fn product(a: u16, b: u16) -> Total
-    ensures { total result ≡ product a b }
+#[tactic(auto, using(crate::proofs::Checked::checked_divided), unfolding(crate::specs::Totals::quotient))]
+pub fn quotient(a: u16, b: u16) -> Result<u16, Refusal>
+    ensures { told result ≡ quotient a b }
 {
-    fit(a as u32 * b as u32)
+    a.checked_div(b).ok_or(Refusal::DivideByZero)
 }
 
-pub fn quotient(a: u16, b: u16) -> Total
-    ensures { total result ≡ quotient a b }
+#[tactic(auto, using(crate::proofs::Checked::checked_divided), unfolding(crate::specs::Totals::remainder))]
+pub fn remainder(a: u16, b: u16) -> Result<u16, Refusal>
+    ensures { told result ≡ remainder a b }
 {
-    if b == 0 {
-        Total::Refused(Refusal::DivideByZero)
-    } else {
-        Total::Is(a / b)
-    }
+    a.checked_rem(b).ok_or(Refusal::DivideByZero)
 }
 
-pub fn remainder(a: u16, b: u16) -> Total
-    ensures { total result ≡ remainder a b }
+#[tactic(auto, using(crate::proofs::Checked::checked), unfolding(crate::specs::Totals::power))]
+pub fn power(a: u16, b: u16) -> Result<u16, Refusal>
+    ensures { told result ≡ power a b }
 {
-    if b == 0 {
-        Total::Refused(Refusal::DivideByZero)
-    } else {
-        Total::Is(a % b)
-    }
-}
-
-// Multiplies once for each unit of the exponent; a product that is too large stays so, which ends it.
-pub fn power(a: u16, b: u16) -> Total
-    ensures { total result ≡ power a b }
-{
-    let mut acc: u16 = 1;
-    let mut i: u16 = 0;
-    while i < b {
-        match product(acc, a) {
-            Total::Is(v) => {
-                acc = v;
-            }
-            Total::Refused(r) => {
-                return Total::Refused(r);
-            }
-        }
-        i += 1;
-    }
-    Total::Is(acc)
+    a.checked_pow(b as u32).ok_or(Refusal::ArithOverflow)
 }
