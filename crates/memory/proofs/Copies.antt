@@ -5,18 +5,15 @@ use mathlib.Core.List.{List, [], ◌∷◌, ◌++◌, append-nil, append_assoc}
 use Prim.Native.Nat.{ℕ, zero, suc, ◌+◌, ◌-◌, ◌≤◌, ◌<◌}
 use native.Mathlib.Numerals.{add-one}
 use native.Mathlib.Omega.{arith}
-use borrow.Author.Tests.{lt-ltb, le-ltb}
 use lib.Dec.{eqb}
 use lib.ListN.{length, set, take, drop, take-append-drop}
 use lib.Seq.{length-take-le, take-suc-set, drop-set-lt, drop-drop}
+use Rattle.std.specs.Prelude.{Option, Some, None}
 use Rattle.base.specs.Choice.{cond}
-use Rattle.map.specs.Valid.{valid}
 use Rattle.map.specs.declared.Map.{Map}
 use Rattle.map.specs.declared.Place.{Place}
 use Rattle.memory.specs.Bytes.{Lent, read_byte}
-use Rattle.memory.specs.Blocks.{until_unmapped, read_bytes, over, Counted, numbered, read_order, counting, copying, read_number, read_out, read_out_buffer}
-use Rattle.memory.specs.declared.Read.{Read}
-use Rattle.memory.specs.declared.Read.TheVariants.{Byte, Unmapped}
+use Rattle.memory.specs.Blocks.{until_unmapped, read_bytes, over, numbered, counting}
 
 -- i bytes are copied, and the rest of the buffer is as it was
 pub record Copied (m : Map) (s : Lent) (start size : ℕ) (out₀ out : List ℕ) (i : ℕ) : Type 0 where
@@ -47,11 +44,11 @@ module _ (m : Map) (s : Lent) (start size : ℕ) where
       next : size - i ≡ suc (size - (i + 1))
       next = omega arith
 
-      pub copied-stop : read_byte m s (start + i) ≡ Unmapped → (i ≡ length (read_bytes m s start size)) × (out ≡ over (read_bytes m s start size) out₀)
+      pub copied-stop : read_byte m s (start + i) ≡ None → (i ≡ length (read_bytes m s start size)) × (out ≡ over (read_bytes m s start size) out₀)
       unfolding read_bytes until_unmapped
       copied-stop e = copied_all (rw (next, e))
 
-      pub copied_more : (v : ℕ) (p : Place) → read_byte m s (start + i) ≡ Byte v p → i < length out → Copied m s start size out₀ (set out i v) (i + 1)
+      pub copied_more : (v : ℕ) (p : Place) → read_byte m s (start + i) ≡ Some (v, p) → i < length out → Copied m s start size out₀ (set out i v) (i + 1)
       unfolding read_bytes until_unmapped
       copied_more v p e g =
           let t : take (i + 1) (set out i v) ≡ take i out ++ (v ∷ []) = rw add-one (take-suc-set out i v g) in
@@ -61,37 +58,12 @@ module _ (m : Map) (s : Lent) (start size : ℕ) where
             back = drop-set-lt (i + 1) out i v (omega arith) ∙ sym (drop-drop 1 i out) ∙ ap (drop 1) r.back ∙ drop-drop 1 i out₀;
           }
 
--- ---- the answers, with the buffer after each
-
-pub record Answered (m : Map) (s : Lent) (start size : ℕ) (out : List ℕ) (n : Counted) (out₁ : List ℕ) : Type 0 where
-  pub answer : n ≡ read_out m s start size (length out)
-  pub buffer : out₁ ≡ read_out_buffer m s start size out
-
-module _ (m : Map) (s : Lent) (start size : ℕ) (out : List ℕ) where
-  pub out-1 : valid m s.dev ≡ false → Answered m s start size out (numbered 1 0) out
-  unfolding read_out read_out_buffer read_number counting copying
-  out-1 e = record { answer = rw e; buffer = rw e }
-
-  module _ (e : valid m s.dev ≡ true) where
-    pub out-12 : 65535 < start + size → Answered m s start size out (numbered 12 0) out
-    unfolding read_out read_out_buffer read_number read_order counting copying
-    out-12 h = record { answer = rw (e, lt-ltb _ _ h); buffer = rw (e, lt-ltb _ _ h) }
-
-    module _ (h : start + size ≤ 65535) where
-      pub out-19 : length out < size → Answered m s start size out (numbered 19 0) out
-      unfolding read_out read_out_buffer read_number read_order counting copying
-      out-19 f = record { answer = rw (e, le-ltb _ _ h, lt-ltb _ _ f); buffer = rw (e, le-ltb _ _ h, lt-ltb _ _ f) }
-
-      pub out-0 : size ≤ length out → Answered m s start size out (numbered 0 (length (read_bytes m s start size))) (over (read_bytes m s start size) out)
-      unfolding read_out read_out_buffer read_number read_order counting copying
-      out-0 f = record { answer = rw (e, le-ltb _ _ h, le-ltb _ _ f); buffer = rw (e, le-ltb _ _ h, le-ltb _ _ f) }
-
 -- ---- how many bytes are read
 
-until-length : (r : Read) (rest : List ℕ) (n : ℕ) → length rest ≤ n → length (until_unmapped r rest) ≤ suc n
+until-length : (r : Option (ℕ × Place)) (rest : List ℕ) (n : ℕ) → length rest ≤ n → length (until_unmapped r rest) ≤ suc n
 unfolding until_unmapped
-until-length (Byte v p) rest n h = omega arith
-until-length Unmapped rest n h = omega arith
+until-length (Some (v, p)) rest n h = omega arith
+until-length None rest n h = omega arith
 
 module _ (m : Map) (s : Lent) where
   -- no more bytes than were asked for

@@ -3,12 +3,11 @@ use mathlib.Core.Path.{◌≡◌, refl, sym, ap, ◌∙◌}
 use mathlib.Core.Bool.{Bool, true, false}
 use Prim.Native.Nat.{ℕ, ◌+◌}
 use native.Mathlib.Omega.{arith}
+use Rattle.std.specs.Prelude.{Option, Some, None}
 use Rattle.base.specs.Addresses.{second_address}
 use Rattle.base.specs.Choice.{cond}
 use Rattle.base.specs.Told.{is}
 use Rattle.base.specs.Words.{low_of, high_of}
-use Rattle.base.specs.declared.addresses.Reached.{Reached}
-use Rattle.base.specs.declared.addresses.Reached.TheVariants.{At, Past}
 use Rattle.base.proofs.AddressLaws.{reached-is}
 use Rattle.base.proofs.ToldLaws.{Numbered}
 use Rattle.map.specs.declared.Map.{Map}
@@ -50,10 +49,10 @@ module _ (m : Map) (s : Lent) (a : ℕ) where
       go false h = nothing-made s ∙ sym (refused-store m s a v h)
 
   -- a high byte that takes no store changes nothing
-  both-made : (r : Reached) (w : ℕ) → made (word_changes m s a r w) s ≡ store_both m s a r w
+  both-made : (r : Option ℕ) (w : ℕ) → made (word_changes m s a r w) s ≡ store_both m s a r w
   unfolding word_changes high_change store_both
-  both-made Past w = nothing-made s
-  both-made (At b) w = go (takes m s b) refl
+  both-made None w = nothing-made s
+  both-made (Some b) w = go (takes m s b) refl
     where
       go : (t : Bool) → takes m s b ≡ t
           → made (cond t (Two (change_at m s a (low_of w)) (change_at m s b (high_of w))) (One (change_at m s a (low_of w)))) s ≡ store_byte m (store_byte m s a (low_of w)) b (high_of w)
@@ -103,10 +102,10 @@ unfolding change_at
 sound-change m s a v h = record { place = refl; taken = h }
 
 -- the second address is another one
-second-apart : (a b : ℕ) → second_address a ≡ At b → b ≡ a → ⊥
+second-apart : (a b : ℕ) → second_address a ≡ Some b → b ≡ a → ⊥
 second-apart a b n e = let k : b ≡ a + 1 = reached-is (a + 1) b n in omega arith
 
-sound-two : (m : Map) (s : Lent) (a v b x : ℕ) → takes m s a ≡ true → takes m s b ≡ true → second_address a ≡ At b → Sound m s (Two (change_at m s a v) (change_at m s b x))
+sound-two : (m : Map) (s : Lent) (a v b x : ℕ) → takes m s a ≡ true → takes m s b ≡ true → second_address a ≡ Some b → Sound m s (Two (change_at m s a v) (change_at m s b x))
 unfolding change_at
 sound-two m s a v b x h k n = (sound-change m s a v h, sound-change m s b x k, second-apart a b n)
 
@@ -119,10 +118,10 @@ module _ (m : Map) (s : Lent) (a : ℕ) where
       go true h = sound-change m s a v h
       go false h = tt
 
-  both-sound : (r : Reached) (w : ℕ) → takes m s a ≡ true → second_address a ≡ r → Sound m s (word_changes m s a r w)
+  both-sound : (r : Option ℕ) (w : ℕ) → takes m s a ≡ true → second_address a ≡ r → Sound m s (word_changes m s a r w)
   unfolding word_changes high_change
-  both-sound Past w h n = tt
-  both-sound (At b) w h n = go (takes m s b) refl
+  both-sound None w h n = tt
+  both-sound (Some b) w h n = go (takes m s b) refl
     where
       go : (t : Bool) → takes m s b ≡ t → Sound m s (cond t (Two (change_at m s a (low_of w)) (change_at m s b (high_of w))) (One (change_at m s a (low_of w))))
       go true k = sound-two m s a (low_of w) b (high_of w) h k n

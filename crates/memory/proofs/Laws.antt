@@ -4,6 +4,7 @@ use mathlib.Core.Path.{◌≡◌, refl, sym, ap, ◌∙◌}
 use mathlib.Core.Bool.{Bool, true, false}
 use Prim.Native.Nat.{ℕ, ◌<◌}
 use lib.ListN.{length, get_or, drop}
+use Rattle.std.specs.Prelude.{Some}
 use Rattle.map.specs.Places.{place, mapped, succeeds, somewhere}
 use Rattle.map.specs.Valid.{valid}
 use Rattle.map.specs.declared.Map.{Map}
@@ -12,7 +13,6 @@ use Rattle.map.specs.declared.Place.TheVariants.{Linear}
 use Rattle.map.proofs.PlaceLaws.{SameByte, Within}
 use Rattle.map.proofs.Laws.{place-within, target-within, place-one, target-place, mapped-rule, takes-rule, valid-length}
 use Rattle.memory.specs.Bytes.{Lent, get, put, place_in, target_in, read_byte, takes, store_byte}
-use Rattle.memory.specs.declared.Read.TheVariants.{Byte}
 use Rattle.memory.proofs.ByteLaws.{put-mem, put-dev, get-put, get-put-other, put_back, put-none, get-some, get-linear, put-far, found, get-found}
 
 -- the same numbers of bytes are lent
@@ -59,7 +59,7 @@ unfolding place_in
 placed_one m s a b q = place-one m (length s.mem) (length s.dev) a b q
 
 -- a linear byte is read there
-pub read-placed : (m : Map) (s : Lent) (a : ℕ) → place m (length s.mem) (length s.dev) a ≡ Linear a → a < length s.mem → read_byte m s a ≡ Byte (get_or s.mem a 0) (Linear a)
+pub read-placed : (m : Map) (s : Lent) (a : ℕ) → place m (length s.mem) (length s.dev) a ≡ Linear a → a < length s.mem → read_byte m s a ≡ Some (get_or s.mem a 0, Linear a)
 unfolding read_byte place_in
 read-placed m s a e h = rw e (get-linear s a h)
 
@@ -136,14 +136,14 @@ module _ (m : Map) (s : Lent) (a v : ℕ) where
       go false h = rw (refused-store m s a v h)
 
   -- reading what was stored gives it
-  pub read-own : takes m s a ≡ true → read_byte m (store_byte m s a v) a ≡ Byte v (place_in m s a)
+  pub read-own : takes m s a ≡ true → read_byte m (store_byte m s a v) a ≡ Some (v, place_in m s a)
   unfolding read_byte
   read-own h =
       rw (place-lengths m (store_byte m s a v) s store-lengths a, ← stored_at m s a v (place_in m s a) (sym (taken-place h)))
       (get-put (place_in m s a) s v (placed-within m s a) (ap somewhere (sym (taken-place h)) ∙ taken-somewhere h))
 
   -- putting the old byte back undoes a store, made or not
-  pub store-undo : (x : ℕ) (p : Place) → read_byte m s a ≡ Byte x p → store_byte m (store_byte m s a v) a x ≡ s
+  pub store-undo : (x : ℕ) (p : Place) → read_byte m s a ≡ Some (x, p) → store_byte m (store_byte m s a v) a x ≡ s
   unfolding read_byte
   store-undo x p e = go (takes m s a) refl
     where
@@ -153,6 +153,6 @@ module _ (m : Map) (s : Lent) (a v : ℕ) where
       go false h = store-refused-again x h
 
   -- an address that takes a store can be read
-  pub takes-mapped : takes m s a ≡ true → (x : ℕ) × (read_byte m s a ≡ Byte x (place_in m s a))
+  pub takes-mapped : takes m s a ≡ true → (x : ℕ) × (read_byte m s a ≡ Some (x, place_in m s a))
   unfolding read_byte
   takes-mapped h = get-some (place_in m s a) s (placed-within m s a) (ap somewhere (sym (taken-place h)) ∙ taken-somewhere h)

@@ -6,7 +6,7 @@ use Prim.Native.Nat.{ℕ, ◌+◌, ◌≤◌, ◌<◌}
 use native.Mathlib.Numerals.{add-one}
 use native.Mathlib.Omega.{arith}
 use lib.Dec.{eqb}
-use borrow.Author.Tests.{lt-ltb, le-ltb, le-leb, lt-leb}
+use borrow.Author.Tests.{le-ltb, lt-leb}
 use lib.ListN.{length, get_or, drop, drop_of_length-le}
 use lib.Seq.{drop-cons}
 use Rattle.base.specs.Choice.{cond}
@@ -17,9 +17,12 @@ use Rattle.map.proofs.Laws.{region-last}
 use Rattle.map.proofs.Orders.{region-map}
 use Rattle.map.specs.declared.Map.{Map}
 use Rattle.memory.specs.Bytes.{Lent}
-use Rattle.memory.specs.Words.{told_store, word_stored, store_word, is_done}
-use Rattle.memory.specs.Program.{words, store_words, load_order, load_number, begins, load_bytes, load_map}
+use Rattle.memory.specs.Words.{word_stored, store_word, is_done}
+use Rattle.memory.specs.Program.{words, store_words, load_order, load_number, load_map}
 use Rattle.memory.specs.declared.Stored.{Stored}
+use Rattle.std.specs.Prelude.{Result}
+use Rattle.base.specs.Told.{told}
+use Rattle.base.specs.declared.refusals.Refusal.{Refusal}
 
 -- what is left to do from instruction i on gives the whole's answer and bytes
 module _ (m : Map) (program : List ℕ) (s₀ s : Lent) (i : ℕ) (r : store_words m s₀ 0 program ≡ store_words m s i (drop i program)) where
@@ -28,7 +31,7 @@ module _ (m : Map) (program : List ℕ) (s₀ s : Lent) (i : ℕ) (r : store_wor
   words-end h = r ∙ rw (drop_of_length-le program h)
 
   -- the callees' clauses as they stand: the address a, the store's outcome t and bytes s₁, and the test q of the outcome
-  module _ (h : i < length program) (a : ℕ) (g : a ≡ doubled i) (t : Stored) (e : told_store t ≡ word_stored m s a) (s₁ : Lent) (f : s₁ ≡ store_word m s a (get_or program i 0)) (q : Bool) (d : q ≡ is_done (told_store t)) where
+  module _ (h : i < length program) (a : ℕ) (g : a ≡ doubled i) (t : Result Stored Refusal) (e : told t ≡ word_stored m s a) (s₁ : Lent) (f : s₁ ≡ store_word m s a (get_or program i 0)) (q : Bool) (d : q ≡ is_done (told t)) where
     done : (u : Bool) → q ≡ u → is_done (word_stored m s (doubled i)) ≡ u
     done u k = ap (λ (x : ℕ). is_done (word_stored m s x)) (sym g) ∙ ap is_done (sym e) ∙ sym d ∙ k
 
@@ -43,41 +46,10 @@ module _ (m : Map) (program : List ℕ) (s₀ s : Lent) (i : ℕ) (r : store_wor
     unfolding store_words
     words_more k = r ∙ rw (drop-cons program i 0, done true k, stored, add-one)
 
--- an answer's number, the map after it and the bytes
-pub record Load (m : Map) (s : Lent) (program : List ℕ) (n : ℕ) (m₁ : Map) (s₁ : Lent) : Type 0 where
-  pub number : n ≡ load_number m s program
-  pub map : m₁ ≡ load_map m s program
-  pub bytes : s₁ ≡ load_bytes m s program
-
-module _ (m : Map) (s : Lent) (program : List ℕ) where
-  pub load-1 : valid m s.dev ≡ false → Load m s program 1 m s
-  unfolding load_number load_map load_bytes
-  load-1 e = record { number = rw e; map = rw e; bytes = rw e }
-
-  module _ (e : valid m s.dev ≡ true) where
-    pub load-16 : 32768 < length program → Load m s program 16 m s
-    unfolding load_number load_order load_map load_bytes begins
-    load-16 h = record { number = rw (e, lt-ltb _ _ h); map = rw (e, lt-ltb _ _ h); bytes = rw (e, lt-leb _ _ h) }
-
-    module _ (h : length program ≤ 32768) where
-      pub load-14 : 8 ≤ m.regions → Load m s program 14 m s
-      unfolding load_number load_order load_map load_bytes begins
-      load-14 f = record { number = rw (e, le-ltb _ _ h, le-leb _ _ f); map = rw (e, le-ltb _ _ h, le-leb _ _ f); bytes = rw (e, le-leb _ _ h, le-ltb _ _ f) }
-
-      module _ (f : m.regions < 8) where
-        pub load-15 : (store_words m s 0 program).all ≡ false → Load m s program 15 m (store_words m s 0 program).bytes
-        unfolding load_number load_order load_map load_bytes begins
-        load-15 g = record { number = rw (e, le-ltb _ _ h, lt-leb _ _ f, g); map = rw (e, le-ltb _ _ h, lt-leb _ _ f, g); bytes = rw (e, le-leb _ _ h, lt-ltb _ _ f) }
-
-        -- with the program stored, what is left is adding the region
-        region-number : (store_words m s 0 program).all ≡ true → region_number m (region 0 (length program)) ≡ load_number m s program
-        unfolding load_number load_order
-        region-number g = region-last m (region 0 (length program)) (omega arith) f ∙ rw (e, le-ltb _ _ h, lt-leb _ _ f, g)
-
-        pub load-on : (store_words m s 0 program).all ≡ true → Load m s program (region_number m (region 0 (length program))) (region_map m (region 0 (length program))) (store_words m s 0 program).bytes
-        unfolding load_map load_bytes begins
-        load-on g = record {
-          number = region-number g;
-          map = region-map m (region 0 (length program)) ∙ ap (λ (n : ℕ). cond (eqb n 0) (with_region m (region 0 (length program))) m) (region-number g);
-          bytes = rw (e, le-leb _ _ h, lt-ltb _ _ f);
-        }
+-- with a program of a valid map stored, what is left is adding the region
+pub load-on : (m : Map) (s : Lent) (program : List ℕ) → valid m s.dev ≡ true → length program ≤ 32768 → m.regions < 8 → (store_words m s 0 program).all ≡ true
+    → (region_number m (region 0 (length program)) ≡ load_number m s program) × (region_map m (region 0 (length program)) ≡ load_map m s program)
+unfolding load_number load_order load_map
+load-on m s program e h f g =
+    let n = region-last m (region 0 (length program)) (omega arith) f ∙ rw (e, le-ltb _ _ h, lt-leb _ _ f, g) in
+    (n, region-map m (region 0 (length program)) ∙ ap (λ (k : ℕ). cond (eqb k 0) (with_region m (region 0 (length program))) m) n)

@@ -1,20 +1,18 @@
 -- Reading memory out: 12, 19, then bytes up to the first unmapped one and their count; later buffer bytes stay.
-use Rattle.std.specs.Prelude.{ℕ, zero, suc, ◌+◌, not, List, [], ◌∷◌, ◌++◌, ltb, eqb, length, drop}
+use Rattle.std.specs.Prelude.{ℕ, zero, suc, ◌+◌, not, List, [], ◌∷◌, ◌++◌, ltb, eqb, length, drop, Option, Some, None, Result, Ok, Err}
 use Rattle.base.specs.Choice.{cond}
 use Rattle.base.specs.Numbers.{number_of}
 use Rattle.base.specs.Order.{Refusing, ◌when◌, first_of}
 use Rattle.map.specs.Valid.{valid}
+use Rattle.base.specs.declared.refusals.Refusal.{Refusal}
 use Rattle.map.specs.declared.Map.{Map}
-use Rattle.memory.specs.declared.Read.{Read}
-use Rattle.memory.specs.declared.Read.TheVariants.{Byte, Unmapped}
-use Rattle.memory.specs.declared.ReadOut.{ReadOut}
-use Rattle.memory.specs.declared.ReadOut.TheVariants.{Count, Refused}
+use Rattle.map.specs.declared.Place.{Place}
 use Rattle.memory.specs.Bytes.{Lent, read_byte}
 
 -- a byte that was read, before those after it; nothing from an unmapped one on
-unfoldable pub until_unmapped : Read → List ℕ → List ℕ
-until_unmapped (Byte v p) rest = v ∷ rest
-until_unmapped Unmapped rest = []
+unfoldable pub until_unmapped : Option (ℕ × Place) → List ℕ → List ℕ
+until_unmapped (Some (v, p)) rest = v ∷ rest
+until_unmapped None rest = []
 
 -- the bytes from address a on, at most n, up to the first unmapped one
 unfoldable pub read_bytes : Map → Lent → ℕ → ℕ → List ℕ
@@ -33,9 +31,9 @@ pub record Counted : Type 0 where
 abbrev pub numbered : ℕ → ℕ → Counted
 numbered n k = record { number = n; count = k }
 
-abbrev pub counted : ReadOut → Counted
-counted (Count n) = numbered 0 n
-counted (Refused r) = numbered (number_of r) 0
+abbrev pub counted : Result ℕ Refusal → Counted
+counted (Ok n) = numbered 0 n
+counted (Err r) = numbered (number_of r) 0
 
 -- reading memory out: 12, 19; with room bytes in the buffer
 unfoldable pub read_order : ℕ → ℕ → ℕ → List Refusing

@@ -1,12 +1,10 @@
 -- What is read at an address, and what a store leaves.
-use Rattle.std.specs.Prelude.{ℕ, Bool, List, ltb, length, get_or, set}
+use Rattle.std.specs.Prelude.{ℕ, Bool, List, ltb, length, get_or, set, Option, Some, None}
 use Rattle.base.specs.Choice.{cond}
 use Rattle.map.specs.Places.{place, target, somewhere}
 use Rattle.map.specs.declared.Map.{Map}
 use Rattle.map.specs.declared.Place.{Place}
 use Rattle.map.specs.declared.Place.TheVariants.{Linear, Bank, Nowhere}
-use Rattle.memory.specs.declared.Read.{Read}
-use Rattle.memory.specs.declared.Read.TheVariants.{Byte, Unmapped}
 
 -- the bytes that are lent: the linear ones and the devices'
 pub record Lent : Type 0 where
@@ -16,14 +14,14 @@ pub record Lent : Type 0 where
 abbrev pub lent : List ℕ → List ℕ → Lent
 lent m d = record { mem = m; dev = d }
 
--- the byte at an index of a buffer, which is that of the place p
-unfoldable pub read_in : List ℕ → ℕ → Place → Read
-read_in bytes i p = cond (ltb i (length bytes)) (Byte (get_or bytes i 0) p) Unmapped
+-- the byte at an index of a buffer, with the place p that it is of
+unfoldable pub read_in : List ℕ → ℕ → Place → Option (ℕ × Place)
+read_in bytes i p = cond (ltb i (length bytes)) (Some (get_or bytes i 0, p)) None
 
-unfoldable pub get : Place → Lent → Read
+unfoldable pub get : Place → Lent → Option (ℕ × Place)
 get (Linear i) s = read_in s.mem i (Linear i)
 get (Bank n o i) s = read_in s.dev i (Bank n o i)
-get Nowhere s = Unmapped
+get Nowhere s = None
 
 -- nothing changes past the end of the bytes that are lent
 unfoldable pub put : Place → Lent → ℕ → Lent
@@ -38,7 +36,7 @@ place_in m s a = place m (length s.mem) (length s.dev) a
 unfoldable pub target_in : Map → Lent → ℕ → Place
 target_in m s a = target m (length s.mem) (length s.dev) a
 
-unfoldable pub read_byte : Map → Lent → ℕ → Read
+unfoldable pub read_byte : Map → Lent → ℕ → Option (ℕ × Place)
 read_byte m s a = get (place_in m s a) s
 
 -- a store at the address is made

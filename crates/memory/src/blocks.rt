@@ -4,7 +4,6 @@ ghost use Rattle.memory.specs.Bytes.{lent};
 ghost use Rattle.memory.specs.Blocks.{read_bytes, over, counted, read_out, read_out_buffer};
 
 use crate::bytes::read_byte;
-use crate::{Read, ReadOut};
 use base::Refusal;
 use map::Map;
 
@@ -14,35 +13,41 @@ fn copy_out(m: Map, mem: &[u8], dev: &[u8], start: u16, size: usize, out: &mut [
     ensures value { result ≡ length (read_bytes m (lent mem.now dev.now) start size) }
     ensures out_after { out.new ≡ over (read_bytes m (lent mem.now dev.now) start size) out.old }
 {
-    let mut i: usize = 0;
-    while i < size {
+    for i in 0..size {
         match read_byte(m, mem, dev, start + i as u16) {
-            Read::Byte(v, _) => {
+            Some((v, _)) => {
                 out[i] = v;
             }
-            Read::Unmapped => {
+            None => {
                 return i;
             }
         }
-        i += 1;
     }
-    i
+    size
 }
 
 // Reads size bytes from start on into out: 1, 12, 19, then the count of bytes before the first unmapped one.
 // Bytes of out past the count stay.
-pub fn read_out(m: Map, mem: &[u8], dev: &[u8], start: u16, size: usize, out: &mut [u8]) -> ReadOut
+#[tactic(auto, unfolding(crate::specs::Blocks::read_out, crate::specs::Blocks::read_out_buffer, crate::specs::Blocks::read_number, crate::specs::Blocks::read_order, crate::specs::Blocks::counting, crate::specs::Blocks::copying))]
+pub fn read_out(
+    m: Map,
+    mem: &[u8],
+    dev: &[u8],
+    start: u16,
+    size: usize,
+    out: &mut [u8],
+) -> Result<usize, Refusal>
     ensures result_value { counted result ≡ read_out m (lent mem.now dev.now) start size (length out.old) }
     ensures out_after { out.new ≡ read_out_buffer m (lent mem.now dev.now) start size out.old }
 {
     if !map::valid(m, dev) {
-        return ReadOut::Refused(Refusal::BadState);
+        return Err(Refusal::BadState);
     }
     if 65535 - (start as usize) < size {
-        return ReadOut::Refused(Refusal::RangeOverflow);
+        return Err(Refusal::RangeOverflow);
     }
     if out.len() < size {
-        return ReadOut::Refused(Refusal::NoRoom);
+        return Err(Refusal::NoRoom);
     }
-    ReadOut::Count(copy_out(m, mem, dev, start, size, out))
+    Ok(copy_out(m, mem, dev, start, size, out))
 }

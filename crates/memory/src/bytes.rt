@@ -2,20 +2,19 @@
 ghost use Rattle.std.specs.Prelude.{◌≡◌};
 ghost use Rattle.memory.specs.Bytes.{lent, get, put, read_byte, takes, store_byte};
 
-use crate::Read;
 use map::{Map, Place};
 
-// The byte at a place, where the bytes lent have it.
+// The byte at a place and the place, where the bytes lent have it.
 #[tactic(auto, unfolding(crate::specs::Bytes::get, crate::specs::Bytes::read_in))]
-pub fn read_at(p: Place, mem: &[u8], dev: &[u8]) -> Read
+pub fn read_at(p: Place, mem: &[u8], dev: &[u8]) -> Option<(u8, Place)>
     ensures { result ≡ get p (lent mem.now dev.now) }
 {
     match p {
         Place::Linear(i) => {
             if i < mem.len() {
-                Read::Byte(mem[i], p)
+                Some((mem[i], p))
             } else {
-                Read::Unmapped
+                None
             }
         }
         Place::Bank {
@@ -24,12 +23,12 @@ pub fn read_at(p: Place, mem: &[u8], dev: &[u8]) -> Read
             index,
         } => {
             if index < dev.len() {
-                Read::Byte(dev[index], p)
+                Some((dev[index], p))
             } else {
-                Read::Unmapped
+                None
             }
         }
-        Place::Nowhere => Read::Unmapped,
+        Place::Nowhere => None,
     }
 }
 
@@ -57,8 +56,9 @@ pub fn store_at(p: Place, mem: &mut [u8], dev: &mut [u8], v: u8)
     }
 }
 
+// The byte at an address and the place that has it, or none where the address is unmapped.
 #[tactic(auto, unfolding(crate::specs::Bytes::read_byte, crate::specs::Bytes::place_in))]
-pub fn read_byte(m: Map, mem: &[u8], dev: &[u8], a: u16) -> Read
+pub fn read_byte(m: Map, mem: &[u8], dev: &[u8], a: u16) -> Option<(u8, Place)>
     ensures { result ≡ read_byte m (lent mem.now dev.now) a }
 {
     let p = map::place_of(m, mem.len(), dev.len(), a);

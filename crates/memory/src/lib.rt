@@ -14,27 +14,11 @@ use map::Place;
 pub use program::write_program;
 pub use words::{decide_byte, decide_word, fetch_word, make, read_word, store_word};
 
-// What reading a byte finds: the byte and the place that answered, or nobody.
-#[derive(Clone, Copy)]
-pub enum Read {
-    Byte(u8, Place),
-    Unmapped,
-}
-
-// What reading a word finds. It is refused at the last address alone.
-#[derive(Clone, Copy)]
-pub enum WordRead {
-    Word(u16),
-    NoWord,
-    Refused(Refusal),
-}
-
-// What becomes of a word's store. It is refused at the last address alone.
+// What becomes of a store that is not refused.
 #[derive(Clone, Copy)]
 pub enum Stored {
     Done,
     Failed,
-    Refused(Refusal),
 }
 
 // A byte to be stored: its address, the place that takes it, and the byte.
@@ -53,16 +37,9 @@ pub enum Changes {
     Two(Change, Change),
 }
 
-// A store that is decided and not yet made.
+// A store that is decided and not yet made. A word's is refused at the last address alone.
 #[derive(Clone, Copy)]
 pub struct Decision {
-    pub outcome: Stored,
+    pub outcome: Result<Stored, Refusal>,
     pub changes: Changes,
-}
-
-// What reading out answers: how many bytes it copied, or the refusal.
-#[derive(Clone, Copy)]
-pub enum ReadOut {
-    Count(usize),
-    Refused(Refusal),
 }

@@ -1,55 +1,38 @@
 // A word: two bytes, the low one first.
 ghost use Rattle.std.specs.Prelude.{◌≡◌};
-ghost use Rattle.base.specs.Told.{is};
+ghost use Rattle.base.specs.Told.{is, told};
 ghost use Rattle.base.specs.Words.{high_of};
 ghost use Rattle.memory.specs.Bytes.{lent};
-ghost use Rattle.memory.specs.Words.{told_word, joined, read_word, told_store, byte_stored, word_stored, store_word, decided, decides, byte_decision, high_change, word_decision, made};
+ghost use Rattle.memory.specs.Words.{read_word, byte_stored, word_stored, store_word, decided, decides, byte_decision, high_change, word_decision, made};
 
 use crate::bytes::{read_byte, store_at};
-use crate::{Change, Changes, Decision, Read, Stored, WordRead};
-use base::{Reached, Refusal};
+use crate::{Change, Changes, Decision, Stored};
+use base::Refusal;
 use map::Map;
 
-#[tactic(auto, unfolding(crate::specs::Words::joined))]
-fn join(low: u8, high: Read) -> WordRead
-    ensures { told_word result ≡ is (joined low high) }
+// The word at an address, low byte first, or none where a byte of it is unmapped.
+#[tactic(auto, unfolding(crate::specs::Words::read_word, crate::specs::Words::read_high, crate::specs::Words::joined))]
+pub fn read_word(m: Map, mem: &[u8], dev: &[u8], a: u16) -> Result<Option<u16>, Refusal>
+    ensures { told result ≡ read_word m (lent mem.now dev.now) a }
 {
-    match high {
-        Read::Byte(v, _) => WordRead::Word(base::word(low, v)),
-        Read::Unmapped => WordRead::NoWord,
-    }
-}
-
-#[tactic(auto, unfolding(crate::specs::Words::read_word, crate::specs::Words::read_high))]
-pub fn read_word(m: Map, mem: &[u8], dev: &[u8], a: u16) -> WordRead
-    ensures { told_word result ≡ read_word m (lent mem.now dev.now) a }
-{
-    match read_byte(m, mem, dev, a) {
-        Read::Byte(low, _) => {
-            match base::second_address(a) {
-                Reached::At(b) => join(low, read_byte(m, mem, dev, b)),
-                Reached::Past => WordRead::Refused(Refusal::AddressOverflow),
-            }
-        }
-        Read::Unmapped => WordRead::NoWord,
-    }
+    let Some((low, _)) = read_byte(m, mem, dev, a) else {
+        return Ok(None);
+    };
+    let b = base::second_address(a).ok_or(Refusal::AddressOverflow)?;
+    Ok(read_byte(m, mem, dev, b).map(|(high, _)| base::word(low, high)))
 }
 
 // The same, faster where both bytes are linear: they are read at once.
-pub fn fetch_word(m: Map, mem: &[u8], dev: &[u8], a: u16) -> WordRead
-    ensures { told_word result ≡ read_word m (lent mem.now dev.now) a }
+pub fn fetch_word(m: Map, mem: &[u8], dev: &[u8], a: u16) -> Result<Option<u16>, Refusal>
+    ensures { told result ≡ read_word m (lent mem.now dev.now) a }
 {
     if map::is_linear_word(m, mem.len(), a) {
         let i = a as usize;
         let low = mem[i];
         let high = mem[i + 1];
-        return WordRead::Word(base::word(low, high));
+        return Ok(Some(base::word(low, high)));
     }
-    match read_word(m, mem, dev, a) {
-        WordRead::Word(w) => WordRead::Word(w),
-        WordRead::NoWord => WordRead::NoWord,
-        WordRead::Refused(e) => WordRead::Refused(e),
-    }
+    read_word(m, mem, dev, a)
 }
 
 // What storing a byte comes to.
@@ -60,7 +43,7 @@ pub fn decide_byte(m: Map, mem: &[u8], dev: &[u8], a: u16, v: u8) -> Decision
     let place = map::target_of(m, mem.len(), dev.len(), a);
     if !map::is_somewhere(place) {
         return Decision {
-            outcome: Stored::Failed,
+            outcome: Ok(Stored::Failed),
             changes: Changes::Nothing,
         };
     }
@@ -70,7 +53,7 @@ pub fn decide_byte(m: Map, mem: &[u8], dev: &[u8], a: u16, v: u8) -> Decision
         byte: v,
     };
     Decision {
-        outcome: Stored::Done,
+        outcome: Ok(Stored::Done),
         changes: Changes::One(x),
     }
 }
@@ -83,7 +66,7 @@ pub fn decide_word(m: Map, mem: &[u8], dev: &[u8], a: u16, w: u16) -> Decision
     let place = map::target_of(m, mem.len(), dev.len(), a);
     if !map::is_somewhere(place) {
         return Decision {
-            outcome: Stored::Failed,
+            outcome: Ok(Stored::Failed),
             changes: Changes::Nothing,
         };
     }
@@ -93,9 +76,9 @@ pub fn decide_word(m: Map, mem: &[u8], dev: &[u8], a: u16, w: u16) -> Decision
         byte: base::low(w),
     };
     match base::second_address(a) {
-        Reached::At(b) => decide_high(m, mem, dev, b, w, first),
-        Reached::Past => Decision {
-            outcome: Stored::Refused(Refusal::AddressOverflow),
+        Some(b) => decide_high(m, mem, dev, b, w, first),
+        None => Decision {
+            outcome: Err(Refusal::AddressOverflow),
             changes: Changes::Nothing,
         },
     }
@@ -109,7 +92,7 @@ fn decide_high(m: Map, mem: &[u8], dev: &[u8], a: u16, w: u16, first: Change) ->
     let place = map::target_of(m, mem.len(), dev.len(), a);
     if !map::is_somewhere(place) {
         return Decision {
-            outcome: Stored::Failed,
+            outcome: Ok(Stored::Failed),
             changes: Changes::One(first),
         };
     }
@@ -119,7 +102,7 @@ fn decide_high(m: Map, mem: &[u8], dev: &[u8], a: u16, w: u16, first: Change) ->
         byte: base::high(w),
     };
     Decision {
-        outcome: Stored::Done,
+        outcome: Ok(Stored::Done),
         changes: Changes::Two(first, second),
     }
 }
@@ -145,8 +128,8 @@ pub fn make(c: Changes, mem: &mut [u8], dev: &mut [u8])
 }
 
 // Stores a word, low byte first; where the high byte takes no store the low one stays.
-pub fn store_word(m: Map, mem: &mut [u8], dev: &mut [u8], a: u16, w: u16) -> Stored
-    ensures result_value { told_store result ≡ word_stored m (lent mem.old dev.old) a }
+pub fn store_word(m: Map, mem: &mut [u8], dev: &mut [u8], a: u16, w: u16) -> Result<Stored, Refusal>
+    ensures result_value { told result ≡ word_stored m (lent mem.old dev.old) a }
     ensures dev_after { lent mem.new dev.new ≡ store_word m (lent mem.old dev.old) a w }
 {
     let d = decide_word(m, &mem[..], &dev[..], a, w);
