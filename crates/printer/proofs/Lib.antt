@@ -3,4 +3,3 @@ pub mod DecimalLaws
 pub mod Laws
 pub mod PrintLaws
 pub mod AsciiLaws
-pub mod AnswerLaws

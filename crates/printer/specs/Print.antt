@@ -1,23 +1,16 @@
 -- Printing: the position after the text, or 19 where the buffer is shorter, and then nothing is written.
 use Rattle.std.specs.Prelude.{ℕ, ◌+◌, List, ◌++◌, leb, length, take, drop}
 use Rattle.base.specs.Choice.{cond}
-use Rattle.base.specs.Numbers.{number_of}
 use Rattle.base.specs.Told.{Told, is, no, ◌>>=◌}
 use Rattle.instruction.specs.declared.Edition.{Edition}
 use Rattle.instruction.specs.declared.Edition.TheVariants.{First}
 use Rattle.instruction.specs.declared.Instruction.{Instruction}
 use Rattle.instruction.specs.Decode.{decode}
 use Rattle.printer.specs.Text.{text_in}
-use Rattle.printer.specs.declared.Printed.{Printed}
-use Rattle.printer.specs.declared.Printed.TheVariants.{Next, Refused}
 
 -- these bytes at a position of a buffer, whose other bytes stay
 unfoldable pub placed : List ℕ → List ℕ → ℕ → List ℕ
 placed bytes buffer at = take at buffer ++ bytes ++ drop (at + length bytes) buffer
-
-abbrev pub printed : Printed → Told ℕ
-printed (Next n) = is n
-printed (Refused r) = no (number_of r)
 
 -- with room bytes in the buffer
 unfoldable pub print_next_in : Edition → Instruction → ℕ → ℕ → Told ℕ

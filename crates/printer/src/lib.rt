@@ -9,12 +9,4 @@ mod operands;
 mod prints;
 mod texts;
 
-use base::Refusal;
 pub use prints::{print, print_in, print_word};
-
-// What printing answers: the position after the text, or the refusal.
-#[derive(Clone, Copy)]
-pub enum Printed {
-    Next(usize),
-    Refused(Refusal),
-}

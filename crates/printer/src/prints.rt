@@ -1,11 +1,11 @@
 // Printing into a lent buffer.
 ghost use Rattle.std.specs.Prelude.{◌≡◌, length, ◌+◌, ◌≤◌};
-ghost use Rattle.printer.specs.Print.{placed, printed, print_next_in, print_buffer_in, print_next, print_buffer, word_next, word_buffer};
+ghost use Rattle.base.specs.Told.{told};
+ghost use Rattle.printer.specs.Print.{placed, print_next_in, print_buffer_in, print_next, print_buffer, word_next, word_buffer};
 
-use crate::Printed;
 use crate::texts::line_of;
 use base::Refusal;
-use instruction::{Decoded, Edition, Instruction, decode};
+use instruction::{Edition, Instruction, decode};
 
 // Copies the text into out from position at on.
 fn copy(text: &[u8], out: &mut [u8], at: usize)
@@ -21,39 +21,36 @@ fn copy(text: &[u8], out: &mut [u8], at: usize)
 
 // Writes the instruction's text into out from position at on, and answers the position after it; 19 where it doesn't fit, and then
 // nothing is written. All other bytes of out stay.
-pub fn print_in(e: Edition, i: Instruction, out: &mut [u8], at: usize) -> Printed
-    ensures result_value { printed result ≡ print_next_in e i (length out.old) at }
+pub fn print_in(e: Edition, i: Instruction, out: &mut [u8], at: usize) -> Result<usize, Refusal>
+    ensures result_value { told result ≡ print_next_in e i (length out.old) at }
     ensures out_after { out.new ≡ print_buffer_in e i out.old at }
 {
     let l = line_of(e, i);
     let bytes = l.bytes;
     let n = l.len;
     if out.len() < at {
-        return Printed::Refused(Refusal::NoRoom);
+        return Err(Refusal::NoRoom);
     }
     if out.len() - at < n {
-        return Printed::Refused(Refusal::NoRoom);
+        return Err(Refusal::NoRoom);
     }
     copy(&bytes[..n], out, at);
-    Printed::Next(at + n)
+    Ok(at + n)
 }
 
 // The same by the first edition, as a listing shows it.
-pub fn print(i: Instruction, out: &mut [u8], at: usize) -> Printed
-    ensures result_value { printed result ≡ print_next i (length out.old) at }
+pub fn print(i: Instruction, out: &mut [u8], at: usize) -> Result<usize, Refusal>
+    ensures result_value { told result ≡ print_next i (length out.old) at }
     ensures out_after { out.new ≡ print_buffer i out.old at }
 {
     print_in(Edition::First, i, out, at)
 }
 
 // Writes what a word says at the start of out: 4 to 6 where it says no instruction, then as `print` does.
-pub fn print_word(w: u16, out: &mut [u8]) -> Printed
-    ensures result_value { printed result ≡ word_next w (length out.old) }
+#[tactic(auto, unfolding(crate::specs::Print::word_next, crate::specs::Print::word_buffer))]
+pub fn print_word(w: u16, out: &mut [u8]) -> Result<usize, Refusal>
+    ensures result_value { told result ≡ word_next w (length out.old) }
     ensures out_after { out.new ≡ word_buffer w out.old }
 {
-    let d = decode(w);
-    match d {
-        Decoded::Ok(i) => print(i, out, 0),
-        Decoded::Refused(r) => Printed::Refused(r),
-    }
+    print(decode(w)?, out, 0)
 }
