@@ -2,13 +2,13 @@
 -- writes. Assumes nothing.
 use Prim.Native.Nat.{ℕ, suc, ◌+◌, ◌*◌, ◌-◌, ◌<◌, ◌≤◌}
 use mathlib.Core.Path.{◌≡◌, ap, ◌∙◌}
-use mathlib.Core.List.{List, [], ◌∷◌, ◌++◌}
+use mathlib.Core.List.{List, ◌++◌}
 use lib.ListN.{length, get_or, take, drop, set}
 use lib.Seq.{get_or-drop, sets, sets-eq}
 use native.Mathlib.Omega.{arith}
-use Rattle.wordbytes.specs.Words.{word_at, bytes_of}
+use Rattle.wordbytes.specs.Words.{word_at, bytes_of, words_from}
 use Rattle.wordbytes.proofs.Laws.{length-bytes}
-use Rattle.wordbytes.proofs.Parts.{words-eight, sets-next}
+use Rattle.wordbytes.proofs.Parts.{sets-next}
 use Rattle.records.specs.declared.Record.{Record}
 use Rattle.records.specs.Records.{old, entry, old_bytes, encode, decode}
 use Rattle.records.specs.Slots.{room, record_at, filled}
@@ -17,12 +17,9 @@ use Rattle.records.proofs.Laws.{length-encode, slot-within}
 -- ---- read
 
 pub decode-flat : (l : List ℕ)
-    → decode l
-    ≡ entry (get_or l 0 0)
-    (word_at l 1 ∷ word_at l 3 ∷ word_at l 5 ∷ word_at l 7 ∷ word_at l 9 ∷ word_at l 11 ∷ word_at l 13 ∷ word_at l 15 ∷ [])
-    (old (word_at l 17) (get_or l 19 0)) (old (word_at l 20) (get_or l 22 0))
+    → decode l ≡ entry (get_or l 0 0) (words_from 8 (drop 1 l)) (old (word_at l 17) (get_or l 19 0)) (old (word_at l 20) (get_or l 22 0))
 unfolding decode
-decode-flat l = simp (words-eight, get_or-drop)
+decode-flat l = simp get_or-drop
 
 pub part-slot : (k : ℕ) (l : List ℕ) → decode (take (23 * k + 23 - 23 * k) (drop (23 * k) l)) ≡ record_at l k
 unfolding record_at

@@ -1,5 +1,5 @@
 -- Slots of a ring: one on, one back, and how far apart two are. Assumes nothing.
-use Prim.Native.Nat.{ℕ, zero, suc, ◌+◌, ◌-◌, ◌<◌}
+use Prim.Native.Nat.{ℕ, zero, suc, ◌+◌, ◌-◌, ◌<◌, ◌≤◌}
 use mathlib.Core.Path.{◌≡◌, refl, ap, ◌∙◌}
 use mathlib.Core.Logic.{◌⊎◌, inl, inr}
 use mathlib.Core.Bool.{Bool, true, false}
@@ -24,6 +24,12 @@ after-step d k h = mod-eq_of_lt h
 pub after-wrap : (d k : ℕ) → k + 1 ≡ d → slot_after d k ≡ 0
 unfolding slot_after
 after-wrap d k e = rw e (mod_self d)
+
+pub after_last : (d k : ℕ) → k < d → d ≤ k + 1 → slot_after d k ≡ 0
+after_last d k l m = after-wrap d k (omega arith)
+
+-- the slot after, as the code finds it: either one more is within the ring, or it is the ring's size
+pub ruleset found_after = (after-step, after_last)
 
 pub before-wrap : (d : ℕ) → 0 < d → slot_before d 0 ≡ d - 1
 unfolding slot_before

@@ -4,7 +4,7 @@ ghost use Rattle.std.proofs.lemmas.List.Edits.{sets};
 ghost use Rattle.records.specs.Records.{old_bytes, encode, decode};
 
 use crate::{Old, Record};
-use wordbytes::{put_eight, put_word, word_at};
+use wordbytes::{put_word, put_words, word_at, words_at};
 
 // The record of 23 bytes.
 pub fn decode(bytes: &[u8]) -> Record
@@ -13,16 +13,7 @@ pub fn decode(bytes: &[u8]) -> Record
 {
     Record {
         kind: bytes[0],
-        registers: [
-            word_at(bytes, 1),
-            word_at(bytes, 3),
-            word_at(bytes, 5),
-            word_at(bytes, 7),
-            word_at(bytes, 9),
-            word_at(bytes, 11),
-            word_at(bytes, 13),
-            word_at(bytes, 15),
-        ],
+        registers: words_at(bytes, 1),
         first: Old {
             address: word_at(bytes, 17),
             byte: bytes[19],
@@ -48,9 +39,8 @@ pub fn encode(bytes: &mut [u8], i: usize, r: Record)
     requires { i + 23 ≤ length bytes.old }
     ensures { bytes.new ≡ sets bytes.old i (encode r) }
 {
-    let g = r.registers;
     bytes[i] = r.kind;
-    put_eight(bytes, i + 1, g);
+    put_words(bytes, i + 1, &r.registers);
     put_old(bytes, i + 17, r.first);
     put_old(bytes, i + 20, r.second);
 }

@@ -16,6 +16,7 @@ pub struct Old {
 // What an accepted step changed: how many bytes it stored, the registers before it, the bytes that it replaced.
 #[derive(Clone, Copy)]
 pub struct Record {
+    // A byte and no enum: what lies in a lent journal may be any byte, and step-back refuses those that are no kind.
     pub kind: u8,
     pub registers: [u16; 8],
     pub first: Old,

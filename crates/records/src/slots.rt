@@ -6,14 +6,15 @@ use crate::Record;
 use crate::bytes::{decode, encode};
 
 // How many records the journal has room for.
+#[tactic(auto, unfolding(crate::specs::Slots::room))]
 pub fn room(journal: &[u8]) -> u16
     ensures { result ≡ room journal.now }
 {
-    let n = journal.len() / 23;
-    if n < 4096 { n as u16 } else { 4096 }
+    (journal.len() / 23).min(4096) as u16
 }
 
 // The slot after k and the slot before it, in a ring of d.
+#[tactic(auto, using(crate::proofs::Ring::found_after))]
 pub fn slot_after(d: u16, k: u16) -> u16
     requires { k < d }
     ensures { result ≡ slot_after d k }
@@ -33,7 +34,7 @@ pub fn slot_before(d: u16, k: u16) -> u16
 pub fn one_more(d: u16, held: u16) -> u16
     ensures { result ≡ min (held + 1) d }
 {
-    if held < d { held + 1 } else { d }
+    held.saturating_add(1).min(d)
 }
 
 // The record in slot k.

@@ -1,7 +1,8 @@
 -- Words as the code reads and writes them, one after the other. Assumes nothing.
 use Prim.Native.Nat.{ℕ, zero, suc, ◌+◌, ◌*◌, ◌<◌, ◌≤◌}
 use mathlib.Core.Path.{◌≡◌, refl, ap, ◌∙◌}
-use mathlib.Core.List.{List, [], ◌∷◌, ◌++◌}
+use mathlib.Core.List.{List, [], ◌∷◌, ◌++◌, map}
+use Rattle.std.specs.List.{range_with_len}
 use lib.ListN.{length, get_or, take, drop, set}
 use lib.Seq.{get_or-drop, drop-drop, length-take-le, take-suc, take-suc-set, sets}
 use native.Mathlib.Omega.{arith}
@@ -47,6 +48,19 @@ pub read_next : (l ws : List ℕ) (n : ℕ) → n < length ws → take n ws ≡ 
 read_next l ws n h e =
     let s : n + 1 ≡ suc n = omega arith in
     rw (words_snoc n l, s, take-suc-set ws n (word_at l (2 * n)) h, e)
+
+-- words in a row, by the number of each
+words-row-from : (l : List ℕ) (i n j : ℕ) → map (λ k. word_at l (i + 2 * k)) (range_with_len j n) ≡ words_from n (drop (i + 2 * j) l)
+unfolding words_from
+words-row-from l i zero j = refl
+words-row-from l i (suc n) j =
+    let m : i + 2 * (j + 1) ≡ i + 2 * j + 2 = omega arith in
+    let z : i + 2 * j + 0 ≡ i + 2 * j = omega arith in
+    let w : word_at (drop (i + 2 * j) l) 0 ≡ word_at l (i + 2 * j) = word-drop (i + 2 * j) 0 l ∙ ap (word_at l) z in
+    rw (words-row-from l i n (j + 1), drop-drop 2 (i + 2 * j) l, m, w)
+
+pub words-row : (l : List ℕ) (i n : ℕ) → map (λ k. word_at l (i + 2 * k)) (range_with_len 0 n) ≡ words_from n (drop i l)
+words-row l i n = let z : i + 0 ≡ i = omega arith in words-row-from l i n 0 ∙ ap (λ j. words_from n (drop j l)) z
 
 -- ---- written
 

@@ -1,7 +1,9 @@
 // Words at a byte of a buffer.
-ghost use Rattle.std.specs.Prelude.{◌≡◌, length, ◌+◌, ◌<◌, ◌≤◌};
+ghost use Rattle.std.specs.Prelude.{◌≡◌, length, ◌+◌, ◌*◌, ◌<◌, ◌≤◌, drop};
 ghost use Rattle.std.proofs.lemmas.List.Edits.{sets};
-ghost use Rattle.wordbytes.specs.Words.{word_bytes, bytes_of, word_at};
+ghost use Rattle.wordbytes.specs.Words.{word_bytes, bytes_of, word_at, words_from};
+
+use std::array;
 
 // The word at byte i and the next one.
 pub fn word_at(bytes: &[u8], i: usize) -> u16
@@ -20,14 +22,20 @@ pub fn put_word(bytes: &mut [u8], i: usize, w: u16)
     bytes[i + 1] = base::high(w);
 }
 
-// Writes eight words over sixteen bytes.
-pub fn put_eight(bytes: &mut [u8], i: usize, g: [u16; 8])
-    requires { i + 16 ≤ length bytes.old }
-    ensures { bytes.new ≡ sets bytes.old i (bytes_of g) }
+// Writes words over bytes, from byte i on.
+pub fn put_words(bytes: &mut [u8], i: usize, words: &[u16])
+    requires { i + 2 * length words.now ≤ length bytes.old }
+    ensures { bytes.new ≡ sets bytes.old i (bytes_of words.now) }
 {
-    let mut n: usize = 0;
-    while n < 8 {
-        put_word(bytes, i + 2 * n, g[n]);
-        n += 1;
+    for (n, w) in words.iter().enumerate() {
+        put_word(bytes, i + 2 * n, *w);
     }
+}
+
+// The words that stand in a row from byte i on, as many as the array has room for.
+pub fn words_at<const N: usize>(bytes: &[u8], i: usize) -> [u16; N]
+    requires { i + 2 * N ≤ length bytes.now }
+    ensures { result ≡ words_from N (drop i bytes.now) }
+{
+    array::from_fn(|n| word_at(bytes, i + 2 * n))
 }

@@ -5,12 +5,10 @@ use Rattle.wordbytes.proofs.buffers.read_words.Goals as goal
 
 pub loop-n-init : goal.loop-n-init
 unfolding words_from
-loop-n-init c = (omega arith, refl)
+loop-n-init c = refl
 
 pub loop-n-preserved : goal.loop-n-preserved
 loop-n-preserved c =
     let h = c.loop-n in
-    let l : h.n < length h.words = c.loop-n-test.true in (
-      omega arith,
-      rw c.word_at.ensures (read_next c.args.bytes.now h.words h.n l h.invariant.1),
-    )
+    let l : h.n < length h.words = omega arith in
+    rw c.word_at.ensures (read_next c.args.bytes.now h.words h.n l h.invariant)
