@@ -1,28 +1,26 @@
--- Zeros one after another: what is left of a table, filled up from i on, stays the same when the entry of zeros is put at i. Assumes nothing.
-use Prim.Native.Nat.{◌+◌, ◌-◌, ◌<◌, ◌≤◌, suc, ℕ}
-use lib.ListN.{length, length-append, length-set, replicate, set, take}
+-- Entries of zeros from an entry on: what stands before it, filled up. Assumes nothing.
+use Prim.Native.Nat.{◌-◌, ◌≤◌, ℕ}
+use lib.ListN.{drop, drop_of_length-le, length, length-drop, length-take, replicate, take}
 use lib.Seq.{length-take-le, take_all}
-use mathlib.Core.List.{List, [], ◌++◌, ◌∷◌, append_assoc, append-nil}
-use mathlib.Core.Path.{◌∙◌, ◌≡◌}
-use native.Mathlib.Numerals.{add-one}
+use borrow.Rule.Slice.PartMut.{mid_of, put_mid, post_of}
+use mathlib.Core.List.{List, [], ◌++◌, append-nil}
+use mathlib.Core.Path.{◌≡◌, ap, sym}
 use native.Mathlib.Omega.{arith}
 use Rattle.labels.specs.declared.Label.{Label}
 use Rattle.labels.specs.Labels.{no_label}
-use Rattle.labels.proofs.ListLaws.{take_snoc}
 use Rattle.table.specs.Table.{filled}
 
 module _ (xs : List Label) (i : ℕ) where
-  pub clear_step : i < length xs → filled (length (set xs i no_label)) (take (i + 1) (set xs i no_label)) ≡ filled (length xs) (take i xs)
+  pub clear-rest : i ≤ length xs → (zeros : List Label) → zeros ≡ replicate (length (mid_of i (length xs - i) xs)) no_label → put_mid i (length xs - i) xs zeros ≡ filled (length xs) (take i xs)
   unfolding filled
-  clear_step h =
-      let a : take (i + 1) (set xs i no_label) ≡ take i xs ++ (no_label ∷ []) = take_snoc xs i no_label h in
-      let b : length (take i xs) ≡ i = length-take-le i xs (omega arith) in
-      let c : length (take i xs ++ (no_label ∷ [])) ≡ i + 1 = length-append (take i xs) (no_label ∷ []) ∙ rw b in
-      let d : length xs - i ≡ suc (length xs - (i + 1)) = omega (arith, add-one (length xs - (i + 1))) in
-      rw (length-set xs i no_label, a, c, b, d) (append_assoc (take i xs) (no_label ∷ []) (replicate (length xs - (i + 1)) no_label))
+  clear-rest h zeros e =
+      let l : length (take i xs) ≡ i = length-take-le i xs h in
+      let rest : post_of i (length xs - i) xs ≡ [] = drop_of_length-le (drop i xs) (omega (arith, length-drop i xs)) in
+      let size : length (mid_of i (length xs - i) xs) ≡ length xs - i = omega (arith, length-take (length xs - i) (drop i xs), length-drop i xs) in
+      rw (l, e, size, rest) (ap (λ (zs : List Label). take i xs ++ zs) (append-nil (replicate (length xs - i) no_label)))
 
-  pub clear-end : length xs ≤ i → filled (length xs) (take i xs) ≡ xs
+  pub clear-end : length xs ≤ i → xs ≡ filled (length xs) (take i xs)
   unfolding filled
   clear-end h =
       let z : length xs - length xs ≡ 0 = omega arith in
-      rw (take_all i xs h, z) (append-nil xs)
+      sym (rw (take_all i xs h, z) (append-nil xs))

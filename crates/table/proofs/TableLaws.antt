@@ -1,67 +1,61 @@
--- One turn of the search for a name: what is found so far, and else what the entries from i on have, is what all the entries have. Assumes nothing.
-use Prim.Native.Nat.{ℕ, ◌+◌, ◌<◌, ◌≤◌}
-use mathlib.Core.Path.{◌≡◌, refl, sym, ap, subst, ◌∙◌}
-use mathlib.Core.Bool.{Bool, true, false}
-use mathlib.Core.List.{List}
+-- The place of the first entry with the name is what a search finds: by induction, entry after entry. Assumes nothing.
+use Prim.Native.Nat.{ℕ, suc, ◌+◌}
+use mathlib.Core.Path.{◌≡◌, refl, sym, ap, ◌∙◌}
+use mathlib.Core.Bool.{Bool, true, false, not}
+use mathlib.Core.List.{List, [], ◌∷◌}
+use borrow.Author.Tests.{lt-ltb}
+use native.Mathlib.Nat.{zero-add}
 use native.Mathlib.Omega.{arith}
-use lib.Dec.{T}
-use lib.ListN.{length, get_or, take, drop, length-take}
+use lib.Dec.{ltb}
 use lib.Seq.{get_or-take}
-use borrow.Author.Tests.{ltb-true, ltb-false}
+use lib.ListN.{length, length-take, get_or, take}
+use Rattle.std.specs.Prelude.{Option, Some, None, nat_lt}
+use Rattle.std.specs.List.{position, position_or_len}
+use Rattle.std.proofs.lemmas.List.Quantifiers.{position-Some}
+use Rattle.base.proofs.Tests.{ltb-same}
 use Rattle.base.specs.Choice.{cond}
 use Rattle.labels.specs.declared.Label.{Label}
 use Rattle.labels.specs.declared.Found.{Found}
-use Rattle.labels.specs.declared.Found.TheVariants.{Nothing, At}
-use Rattle.labels.specs.Labels.{no_label, is_named, find_from, find}
-use Rattle.labels.proofs.Scans.{scan-start, scan-hit, scan-miss, scan-end}
-use Rattle.table.specs.Table.{found_at, looks_on}
-
--- what is found, and else what is found later
-abbrev pub first_of : Found → Found → Found
-first_of Nothing later = later
-first_of (At k a) later = At k a
-
-pub looks-within : (i n : ℕ) (f : Found) → looks_on i n f ≡ true → i < n
-looks-within i n Nothing e = ltb-true i n e
-looks-within i n (At k a) e = absurd (subst T (sym e) tt)
-
--- the entries that are looked at: no more than the count, and no more than there are
-module _ (count : ℕ) (ls : List Label) where
-  pub within_count : length (take count ls) ≤ count
-  within_count = omega (arith, length-take count ls)
-
-  pub within-table : length (take count ls) ≤ length ls
-  within-table = omega (arith, length-take count ls)
+use Rattle.labels.specs.Labels.{no_label, is_named, found_at, find_from, find}
 
 module _ (text name : List ℕ) where
-  module _ (ls : List Label) where
-    -- before the first turn
-    pub begun : first_of Nothing (find_from text name 0 (drop 0 ls)) ≡ find text name ls
-    begun = sym (scan-start text name ls)
+  -- entry `at` of these, the first of which is entry i
+  abbrev found_in : ℕ → List Label → Option ℕ → Option Found
+  found_in i ls None = None
+  found_in i ls (Some at) = Some (found_at (i + at) (get_or ls at no_label).address)
 
-    module _ (i : ℕ) where
-      one_entry : i < length ls → first_of (found_at text name i (get_or ls i no_label)) (find_from text name (i + 1) (drop (i + 1) ls)) ≡ find_from text name i (drop i ls)
-      unfolding found_at
-      one_entry h = go (is_named text name (get_or ls i no_label)) refl
+  placed : (ls : List Label) (i : ℕ) → find_from text name i ls ≡ found_in i ls (position (is_named text name) ls)
+  unfolding find_from
+  placed [] i = refl
+  placed (l ∷ ls) i = go (is_named text name l) (placed ls (i + 1))
+    where
+      moved : (k n : ℕ) → found_in (i + 1) ls (cond (nat_lt k n) (Some k) None) ≡ found_in i (l ∷ ls) (cond (nat_lt (1 + k) (suc n)) (Some (1 + k)) None)
+      moved k n = go (ltb k n) ∙ ap (λ (t : Bool). found_in i (l ∷ ls) (cond t (Some (1 + k)) None)) (ltb-same k n (1 + k) (suc n) (λ h. omega (arith, h)) (λ h. omega (arith, h)))
         where
-          go : (t : Bool) → is_named text name (get_or ls i no_label) ≡ t → first_of (cond t (At i (get_or ls i no_label).address) Nothing) (find_from text name (i + 1) (drop (i + 1) ls)) ≡ find_from text name i (drop i ls)
-          go true e = sym (scan-hit text name ls i no_label h e)
-          go false e = sym (scan-miss text name ls i no_label h e)
+          go : (t : Bool) → found_in (i + 1) ls (cond t (Some k) None) ≡ found_in i (l ∷ ls) (cond t (Some (1 + k)) None)
+          go true =
+              let e : i + 1 + k ≡ i + (1 + k) = omega arith in
+              let q : suc k ≡ 1 + k = omega arith in
+              ap (λ (m : ℕ). Some (found_at m (get_or ls k no_label).address)) e ∙ ap (λ (m : ℕ). Some (found_at (i + (1 + k)) (get_or (l ∷ ls) m no_label).address)) q
+          go false = refl
 
-      -- something is found, or there is no entry i
-      pub ended : (f : Found) → looks_on i (length ls) f ≡ false → first_of f (find_from text name i (drop i ls)) ≡ find text name ls → f ≡ find text name ls
-      ended Nothing e so_far = sym (scan-end text name ls i (ltb-false i (length ls) e)) ∙ so_far
-      ended (At k a) e so_far = so_far
+      go : (t : Bool) → find_from text name (i + 1) ls ≡ found_in (i + 1) ls (position (is_named text name) ls) →
+          cond t (Some (found_at i l.address)) (find_from text name (i + 1) ls)
+          ≡ found_in i (l ∷ ls) (cond (nat_lt (cond (not t) (1 + position_or_len (is_named text name) ls) 0) (suc (length ls))) (Some (cond (not t) (1 + position_or_len (is_named text name) ls) 0)) None)
+      go true ih =
+          let e : i ≡ i + 0 = omega arith in
+          rw (lt-ltb 0 (suc (length ls)) (omega arith)) (ap (λ (m : ℕ). Some (found_at m l.address)) e)
+      go false ih = ih ∙ moved (position_or_len (is_named text name) ls) (length ls)
 
-  -- nothing is found yet, and entry i of the table is looked at: it is one of the first `count`
-  module _ (count : ℕ) (table : List Label) (i : ℕ) where
-    abbrev ls : List Label
-    ls = take count table
+  pub place_none : (ls : List Label) → None ≡ position (is_named text name) ls → None ≡ find text name ls
+  unfolding find
+  place_none ls e = ap (found_in 0 ls) e ∙ sym (placed ls 0)
 
-    pub turned : (f r : Found) → looks_on i (length ls) f ≡ true → r ≡ found_at text name i (get_or table i no_label) →
-        first_of f (find_from text name i (drop i ls)) ≡ find text name ls → first_of r (find_from text name (i + 1) (drop (i + 1) ls)) ≡ find text name ls
-    turned Nothing r e said so_far =
-        let h : i < length ls = ltb-true i (length ls) e in
-        let same : get_or ls i no_label ≡ get_or table i no_label = get_or-take count table i no_label (omega (arith, h, within_count count table)) in
-        ap (λ (s : Found). first_of s (find_from text name (i + 1) (drop (i + 1) ls))) (said ∙ ap (found_at text name i) (sym same)) ∙ one_entry ls i h ∙ so_far
-    turned (At k a) r e said so_far = absurd (subst T (sym e) tt)
+  -- of the first `count` of a table
+  pub place_some : (table : List Label) (count i : ℕ) → Some i ≡ position (is_named text name) (take count table) →
+      Some (found_at i (get_or table i no_label).address) ≡ find text name (take count table)
+  unfolding find
+  place_some table count i e =
+      let k = position-Some (is_named text name) (take count table) i no_label (sym e) in
+      let same : get_or (take count table) i no_label ≡ get_or table i no_label = get_or-take count table i no_label (omega (arith, k.0, length-take count table)) in
+      ap (λ (l : Label). Some (found_at i l.address)) (sym same) ∙ ap (λ (m : ℕ). Some (found_at m (get_or (take count table) i no_label).address)) (sym (zero-add i)) ∙ ap (found_in 0 (take count table)) e ∙ sym (placed (take count table) 0)

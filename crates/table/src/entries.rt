@@ -1,23 +1,29 @@
 // The functions over the lent slice.
-ghost use Rattle.std.specs.Prelude.{◌≡◌, length, set, take};
-ghost use Rattle.labels.specs.Labels.{find};
+ghost use Rattle.std.specs.Prelude.{◌≡◌, length, position, set, take};
+ghost use Rattle.labels.specs.Labels.{is_named, find};
 ghost use Rattle.table.specs.Table.{filled};
 
-use crate::says::{found_at, least, looks_on};
-use labels::{Found, Label};
+use labels::{Found, Label, names};
+
+// Where the first of the first `count` entries stands that has the name.
+fn place(text: &[u8], table: &[Label], count: usize, name: &[u8]) -> Option<usize>
+    ensures { result ≡ position (is_named text.now name.now) (take count table.now) }
+{
+    table
+        .iter()
+        .take(count)
+        .position(|l| names(text, l.place, l.length, name))
+}
 
 // The first of the first `count` entries that has the name.
-pub fn find(text: &[u8], table: &[Label], count: usize, name: &[u8]) -> Found
+pub fn find(text: &[u8], table: &[Label], count: usize, name: &[u8]) -> Option<Found>
     ensures { result ≡ find text.now name.now (take count table.now) }
 {
-    let n = least(count, table.len());
-    let mut f = Found::Nothing;
-    let mut i: usize = 0;
-    while looks_on(i, n, f) {
-        f = found_at(text, i, table[i], name);
-        i += 1;
-    }
-    f
+    let index = place(text, table, count, name)?;
+    Some(Found {
+        index,
+        address: table[index].address,
+    })
 }
 
 // Stores entry i; past the end nothing.
@@ -33,14 +39,11 @@ pub fn define(table: &mut [Label], i: usize, l: Label)
 pub fn clear(table: &mut [Label], from: usize)
     ensures { table.new ≡ filled (length table.old) (take from table.old) }
 {
-    let none = Label {
-        place: 0,
-        length: 0,
-        address: 0,
-    };
-    let mut i = from;
-    while i < table.len() {
-        define(table, i, none);
-        i += 1;
+    if from < table.len() {
+        table[from..].fill(Label {
+            place: 0,
+            length: 0,
+            address: 0,
+        });
     }
 }

@@ -1,10 +1,10 @@
--- Each turn puts the entry of zeros at i, where zeros are to be; past the last entry nothing is left to fill. Assumes nothing.
-use Rattle.std.proofs.Common.{sym, ◌∙◌}
-use Rattle.table.proofs.ClearLaws.{clear_step, clear-end}
+-- What is before `from` stays, and zeros come after it; past the last entry there is nothing to clear. Assumes nothing.
+use Rattle.std.proofs.Common.{arith}
+use Rattle.table.proofs.ClearLaws.{clear-rest, clear-end}
 use Rattle.table.proofs.entries.clear.Goals as goal
 
-pub loop-i-preserved : goal.loop-i-preserved
-loop-i-preserved c = rw c.define.ensures (clear_step c.loop-i.table c.loop-i.i c.loop-i-test.true ∙ c.loop-i.invariant)
+pub returns-then-from-table : goal.returns-then-from-table
+returns-then-from-table c = clear-rest c.args.table.now c.args.from (omega arith) c.fill.new.self (c.fill.ensures.after (λ y same. same))
 
-pub returns : goal.returns
-returns c = sym (clear-end c.loop-i.table c.loop-i.i c.loop-i-test.false) ∙ c.loop-i.invariant
+pub returns-else-from-table : goal.returns-else-from-table
+returns-else-from-table c = clear-end c.args.table.now c.args.from c.if-from-table.false
