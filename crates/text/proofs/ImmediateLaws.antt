@@ -1,7 +1,7 @@
 -- Numbers in text, digit by digit.
 use Prim.Native.Nat.{◌*◌, ◌+◌, ◌<◌, ◌≤◌, suc, ℕ}
-use borrow.Author.Tests.{eq-eqb, le-leb, le-ltb, lt-leb, lt-ltb, ne_eqb}
-use lib.Dec.{eqb}
+use borrow.Author.Tests.{le-leb, le-ltb, lt-leb, lt-ltb}
+use lib.Dec.{ltb}
 use lib.ListN.{drop, drop_of_length-le, get_or, length}
 use lib.Seq.{drop-cons}
 use mathlib.Core.Bool.{Bool, false, true}
@@ -12,17 +12,45 @@ use native.Mathlib.Numerals.{add-one}
 use native.Mathlib.Omega.{arith}
 use Rattle.base.specs.Choice.{cond}
 use Rattle.base.specs.Told.{is, no}
-use Rattle.text.specs.Immediates.{after_plus, all_digits, at_most, digit_of, digits, digits_from, immediate, is_hex, value_from, value_of}
+use Rattle.std.specs.Prelude.{Option, Some, None, SomeIff}
+use Rattle.std.specs.Char.{digit_value}
+use Rattle.std.proofs.lemmas.Bool.Decides.{nat_tests}
+use Rattle.text.specs.Immediates.{all_digits, at_most, digit_in, digit_of, digits, digits_from, value_from}
+
+-- up to 16 the two values of a digit are one
+module _ (b base : ℕ) (h : base ≤ 16) where
+  digit_same : digit_value b < base → digit_of b ≡ digit_value b
+  unfolding digit_of
+  digit_same l = grind (arith, nat_tests)
+
+  too_large : base ≤ digit_value b → base ≤ digit_of b
+  unfolding digit_of
+  too_large l = grind (arith, nat_tests)
+
+-- a digit below a base of at most 16 is the library's
+pub digit_is : (o : Option ℕ) (b base : ℕ) → base ≤ 16 → SomeIff o (digit_value b < base) (digit_value b) → o ≡ digit_in base b
+digit_is None b base h e = rw (le-ltb (digit_of b) base (too_large b base h (omega (arith, e))))
+digit_is (Some d) b base h e =
+    let v : digit_of b ≡ digit_value b = digit_same b base h e.0 in
+    rw (e.1, v, lt-ltb (digit_value b) base e.0)
 
 module _ (base : ℕ) (s : List ℕ) (acc i : ℕ) where
-  pub num-step : i < length s → digit_of (get_or s i 0) < base → digits_from base acc (drop i s) ≡ digits_from base (acc * base + digit_of (get_or s i 0)) (drop (i + 1) s)
-  num-step h d = rw (add-one, drop-cons s i 0, lt-ltb _ _ d)
+  pub num_next : (d : ℕ) → i < length s → digit_in base (get_or s i 0) ≡ Some d → digits_from base acc (drop i s) ≡ digits_from base (acc * base + d) (drop (i + 1) s)
+  num_next d h e = go (ltb (digit_of (get_or s i 0)) base) refl e
+    where
+      go : (t : Bool) → ltb (digit_of (get_or s i 0)) base ≡ t → cond t (Some (digit_of (get_or s i 0))) None ≡ Some d → digits_from base acc (drop i s) ≡ digits_from base (acc * base + d) (drop (i + 1) s)
+      go true q e = let v : digit_of (get_or s i 0) ≡ d = cc in rw (← v, add-one, drop-cons s i 0, q)
+      go false q e = cc
 
-  pub num-bad : i < length s → base ≤ digit_of (get_or s i 0) → digits_from base acc (drop i s) ≡ no 24
-  num-bad h d = rw (drop-cons s i 0, le-ltb _ _ d)
+  pub num_bad : i < length s → digit_in base (get_or s i 0) ≡ None → digits_from base acc (drop i s) ≡ no 24
+  num_bad h e = go (ltb (digit_of (get_or s i 0)) base) refl e
+    where
+      go : (t : Bool) → ltb (digit_of (get_or s i 0)) base ≡ t → cond t (Some (digit_of (get_or s i 0))) None ≡ None → digits_from base acc (drop i s) ≡ no 24
+      go true q e = cc
+      go false q e = rw (drop-cons s i 0, q)
 
-  pub num-end : length s ≤ i → acc ≤ 65535 → digits_from base acc (drop i s) ≡ is acc
-  num-end h l = rw (drop_of_length-le, le-leb _ _ l)
+  pub num_end : length s ≤ i → acc ≤ 65535 → digits_from base acc (drop i s) ≡ is acc
+  num_end h l = rw (drop_of_length-le, le-leb _ _ l)
 
 grows : (base : ℕ) → 1 ≤ base → (acc : ℕ) (xs : List ℕ) → acc ≤ value_from base acc xs
 grows base h acc [] = omega arith
@@ -30,7 +58,7 @@ grows base h acc (x ∷ xs) =
     let a : acc ≤ acc * base = le-mul_of_pos_right acc h in
     omega (arith, grows base h (acc * base + digit_of x) xs)
 
-pub num-over : (base : ℕ) → 1 ≤ base → (acc : ℕ) → 65535 < acc → (xs : List ℕ) → digits_from base acc xs ≡ no 24
+num-over : (base : ℕ) → 1 ≤ base → (acc : ℕ) → 65535 < acc → (xs : List ℕ) → digits_from base acc xs ≡ no 24
 num-over base h acc o xs = cases (all_digits base xs)
   where
     cases : (t : Bool) → cond t (at_most (value_from base acc xs)) (no 24) ≡ no 24
@@ -40,9 +68,10 @@ num-over base h acc o xs = cases (all_digits base xs)
     cases false = refl
 
 -- one digit more makes the number too large
-pub num_past : (base : ℕ) (s : List ℕ) (acc i : ℕ) → 1 ≤ base → i < length s → digit_of (get_or s i 0) < base → 65535 < acc * base + digit_of (get_or s i 0) →
-    digits_from base acc (drop i s) ≡ no 24
-num_past base s acc i b h d o = num-step base s acc i h d ∙ num-over base b (acc * base + digit_of (get_or s i 0)) o (drop (i + 1) s)
+pub num_past : (base : ℕ) (s : List ℕ) (acc i d : ℕ) → 1 ≤ base → i < length s → digit_in base (get_or s i 0) ≡ Some d → 65535 < acc * base + d → digits_from base acc (drop i s) ≡ no 24
+num_past base s acc i d b h e o = num_next base s acc i d h e ∙ num-over base b (acc * base + d) o (drop (i + 1) s)
+
+pub ruleset digit_laws = (num_next, num_bad, num_end, num_past)
 
 pub num-some : (base : ℕ) (s : List ℕ) → (length s ≡ 0 → ⊥) → digits_from base 0 s ≡ digits base s
 num-some base [] h = absurd (h refl)
@@ -51,57 +80,3 @@ num-some base (x ∷ xs) h = refl
 pub num-none : (base : ℕ) (s : List ℕ) → length s ≡ 0 → no 24 ≡ digits base s
 num-none base [] h = refl
 num-none base (x ∷ xs) h = let z : suc (length xs) ≡ 0 = h in absurd (omega arith)
-
--- lists by their first bytes, as the code looks at them
-pub plus_none : (s : List ℕ) → length s ≡ 0 → s ≡ after_plus s
-plus_none [] h = refl
-plus_none (x ∷ xs) h = absurd (omega arith)
-
-pub plus_one : (s : List ℕ) → (length s ≡ 0 → ⊥) → get_or s 0 0 ≡ 43 → drop 1 s ≡ after_plus s
-plus_one [] h e = absurd (h refl)
-plus_one (x ∷ xs) h e = rw (eq-eqb x 43 e)
-
-pub plus-other : (s : List ℕ) → (get_or s 0 0 ≡ 43 → ⊥) → s ≡ after_plus s
-plus-other [] e = refl
-plus-other (x ∷ xs) e = rw (ne_eqb x 43 e)
-
-pub hex-short : (s : List ℕ) → length s < 2 → false ≡ is_hex s
-hex-short [] h = refl
-hex-short (x ∷ []) h = refl
-hex-short (x ∷ y ∷ xs) h = absurd (omega arith)
-
-pub hex-not : (s : List ℕ) → 2 ≤ length s → (get_or s 0 0 ≡ 48 → ⊥) → false ≡ is_hex s
-hex-not [] h e = absurd (omega arith)
-hex-not (x ∷ []) h e = absurd (omega arith)
-hex-not (x ∷ y ∷ xs) h e = rw (ne_eqb x 48 e)
-
-pub hex-last : (s : List ℕ) → 2 ≤ length s → get_or s 0 0 ≡ 48 → eqb (get_or s 1 0) 120 ≡ is_hex s
-hex-last [] h e = absurd (omega arith)
-hex-last (x ∷ []) h e = absurd (omega arith)
-hex-last (x ∷ y ∷ xs) h e = rw (eq-eqb x 48 e)
-
-pub hex-long : (s : List ℕ) → is_hex s ≡ true → 2 ≤ length s
-hex-long [] e = let z : false ≡ true = e in absurd (let q : ◌≡◌ {A = ℕ} 0 1 = cc in omega arith)
-hex-long (x ∷ []) e = let z : false ≡ true = e in absurd (let q : ◌≡◌ {A = ℕ} 0 1 = cc in omega arith)
-hex-long (x ∷ y ∷ xs) e = omega arith
-
-pub imm-none : (s : List ℕ) → length s ≡ 0 → no 24 ≡ immediate s
-unfolding immediate
-imm-none [] h = refl
-imm-none (x ∷ xs) h = absurd (omega arith)
-
-pub imm-not : (s : List ℕ) → (get_or s 0 0 ≡ 35 → ⊥) → no 24 ≡ immediate s
-unfolding immediate
-imm-not [] e = refl
-imm-not (x ∷ xs) e = rw (ne_eqb x 35 e)
-
-pub imm-hash : (s : List ℕ) → (length s ≡ 0 → ⊥) → get_or s 0 0 ≡ 35 → value_of (drop 1 s) ≡ immediate s
-unfolding immediate
-imm-hash [] h e = absurd (h refl)
-imm-hash (x ∷ xs) h e = rw (eq-eqb x 35 e)
-
-pub value-hex : (s : List ℕ) → is_hex s ≡ true → digits 16 (after_plus (drop 2 s)) ≡ value_of s
-value-hex s e = rw e
-
-pub value-dec : (s : List ℕ) → is_hex s ≡ false → digits 10 (after_plus s) ≡ value_of s
-value-dec s e = rw e

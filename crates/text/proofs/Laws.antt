@@ -1,19 +1,14 @@
--- An immediate that is refused is 24: each test of the definition is looked at. Two answers that are told alike are one. Assumes
--- nothing.
+-- An immediate that is refused is 24: each test of the definition is looked at. Assumes nothing.
 use Prim.Native.Nat.{ℕ}
-use mathlib.Core.Path.{◌≡◌, refl, sym, ap, ◌∙◌}
+use mathlib.Core.Path.{◌≡◌, refl, sym, ◌∙◌}
 use mathlib.Core.List.{List, [], ◌∷◌}
 use mathlib.Core.Bool.{Bool, true, false}
 use lib.Dec.{eqb, leb}
 use lib.ListN.{drop}
 use Rattle.base.specs.Choice.{cond}
 use Rattle.base.specs.Told.{Told, is, no}
-use Rattle.base.specs.Numbers.{number_of}
-use Rattle.base.proofs.Laws.{number-one}
-use Rattle.base.proofs.ToldLaws.{is-not-no, is_one, no_one}
-use Rattle.text.specs.Immediates.{told, all_digits, value_from, at_most, digits, after_plus, is_hex, value_of, immediate}
-use Rattle.text.specs.declared.Immediate.{Immediate}
-use Rattle.text.specs.declared.Immediate.TheVariants.{Is, Refused}
+use Rattle.base.proofs.ToldLaws.{is-not-no, no_one}
+use Rattle.text.specs.Immediates.{all_digits, value_from, at_most, digits, after_plus, is_hex, value_of, immediate}
 
 -- refused only by 24
 abbrev By24 : Told ℕ → Type 0
@@ -46,9 +41,3 @@ immediate-refused t n = go (immediate t) (immediate-by t)
     go : (a : Told ℕ) → By24 a → a ≡ no n → n ≡ 24
     go (is v) p e = is-not-no v n e
     go (no k) p e = sym (no_one k n e) ∙ p
-
-pub immediate-one : (a b : Immediate) → told a ≡ told b → a ≡ b
-immediate-one (Is v) (Is w) e = ap Is (is_one v w e)
-immediate-one (Is v) (Refused r) e = is-not-no v (number_of r) e
-immediate-one (Refused r) (Is v) e = is-not-no v (number_of r) (sym e)
-immediate-one (Refused r) (Refused q) e = ap Refused (number-one r q (no_one (number_of r) (number_of q) e))

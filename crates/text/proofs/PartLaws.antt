@@ -2,7 +2,7 @@
 use Prim.Native.Nat.{◌+◌, ◌-◌, ◌<◌, ◌≤◌, suc, zero, ℕ}
 use lib.ListN.{drop, drop_of_length-le, get_or, length, length-drop, take}
 use lib.Seq.{drop-cons, take_all, take-suc}
-use mathlib.Core.Bool.{Bool, false, true}
+use mathlib.Core.Bool.{Bool, false, not, true}
 use mathlib.Core.List.{List, [], ◌++◌, ◌∷◌}
 use mathlib.Core.Path.{◌∙◌, ◌≡◌, ap, refl, sym}
 use native.Mathlib.Nat.{not-suc-le-zero}
@@ -11,6 +11,10 @@ use native.Mathlib.Omega.{arith}
 use Rattle.base.proofs.SameLaws.{same-equal, same_self}
 use Rattle.base.specs.Bytes.{same}
 use Rattle.base.specs.Choice.{cond}
+use Rattle.std.specs.Prelude.{Option, Some, None, unwrap_or, position}
+use Rattle.std.specs.List.{position_or_len}
+use Rattle.std.proofs.Common.{cond as std-cond, nat_lt}
+use borrow.Author.Tests.{ltb-false}
 use Rattle.text.specs.Parts.{drop_end, keep_if, run}
 
 module _ (p : ℕ → Bool) (s : List ℕ) (i : ℕ) where
@@ -41,6 +45,15 @@ module _ (a b : List ℕ) (i : ℕ) where
 
 pub same_none : (a b : List ℕ) (i : ℕ) → length a ≤ i → length b ≤ i → drop i a ≡ drop i b
 same_none a b i ha hb = rw (drop_of_length-le a ha, drop_of_length-le b hb)
+
+-- the library's sameness of bytes
+pub same_is : (t : Bool) (a b : List ℕ) → (t ≡ true → a ≡ b) → (a ≡ b → t ≡ true) → t ≡ same a b
+same_is true a b f g = rw (f refl) (sym (same_self b))
+same_is false a b f g = go (same a b) refl
+  where
+    go : (u : Bool) → same a b ≡ u → false ≡ u
+    go true e = let z : false ≡ true = g (same-equal a b e) in cc
+    go false e = refl
 
 pub same-all : (a b : List ℕ) (i : ℕ) → i ≤ 0 → drop i a ≡ drop i b → same a b ≡ true
 same-all a b i h t =
@@ -84,6 +97,18 @@ module _ (p : ℕ → Bool) (s : List ℕ) (n : ℕ) (pos : 0 < n) (h : n ≤ le
   pub end-stop : p (get_or s (n - 1) 0) ≡ false → drop_end p (take n s) ≡ take n s
   end-stop e = ap (drop_end p) last_byte ∙ snoc-keeps p (take (n - 1) s) (get_or s (n - 1) 0) e ∙ sym last_byte
 
+-- the last byte of a list: dropped where it passes the test, and else all is kept
+module _ (p : ℕ → Bool) (s : List ℕ) (h : 1 ≤ length s) where
+  pub last_drops : p (get_or s (length s - 1) 0) ≡ true → drop_end p (take (length s - 1) s) ≡ drop_end p s
+  last_drops e = sym (end_step p s (length s) (omega arith) (omega arith) e) ∙ ap (drop_end p) (take_all (length s) s (omega arith))
+
+  pub last_keeps : p (get_or s (length s - 1) 0) ≡ false → s ≡ drop_end p s
+  last_keeps e =
+      let a : take (length s) s ≡ s = take_all (length s) s (omega arith) in
+      sym a ∙ sym (end-stop p s (length s) (omega arith) (omega arith) e) ∙ ap (drop_end p) a
+
+pub ruleset end_laws = (last_drops, last_keeps)
+
 pub zero-front : (p : ℕ → Bool) (s : List ℕ) (e : ℕ) → e ≤ 0 → take e s ≡ drop_end p (take e s)
 zero-front p s zero h = refl
 zero-front p s (suc e) h = absurd (not-suc-le-zero h)
@@ -97,3 +122,36 @@ end-le p (x ∷ xs) = cases (p x) (drop_end p xs) (end-le p xs)
     cases true [] h = omega arith
     cases false [] h = omega arith
     cases t (y ∷ ys) h = omega arith
+
+-- a run ends where the first byte is that does not pass
+found_at : (n m : ℕ) → n ≤ m → unwrap_or (std-cond (nat_lt n m) (Some n) None) m ≡ n
+found_at n m h = go (nat_lt n m) refl
+  where
+    go : (t : Bool) → nat_lt n m ≡ t → unwrap_or (std-cond t (Some n) None) m ≡ n
+    go true e = refl
+    go false e = omega (arith, ltb-false n m e)
+
+module _ (p : ℕ → Bool) where
+  runs_while : (xs : List ℕ) → position_or_len (λ x. not (p x)) xs ≡ run p xs
+  runs_while [] = refl
+  runs_while (x ∷ xs) = turn (p x) (position_or_len (λ x. not (p x)) xs) (run p xs) (runs_while xs)
+    where
+      turn : (t : Bool) (n m : ℕ) → n ≡ m → std-cond (not (not t)) (1 + n) 0 ≡ cond t (suc m) 0
+      turn true n m e = omega arith
+      turn false n m e = refl
+
+  runs_until : (xs : List ℕ) → position_or_len p xs ≡ run (λ x. not (p x)) xs
+  runs_until [] = refl
+  runs_until (x ∷ xs) = turn (p x) (position_or_len p xs) (run (λ x. not (p x)) xs) (runs_until xs)
+    where
+      turn : (t : Bool) (n m : ℕ) → n ≡ m → std-cond (not t) (1 + n) 0 ≡ cond (not t) (suc m) 0
+      turn true n m e = refl
+      turn false n m e = omega arith
+
+  pub run_while : (xs : List ℕ) {r : Option ℕ} → r ≡ position (λ x. not (p x)) xs → unwrap_or r (length xs) ≡ run p xs
+  run_while xs e =
+      rw e (found_at (position_or_len (λ x. not (p x)) xs) (length xs) (omega (arith, runs_while xs, run-le p xs)) ∙ runs_while xs)
+
+  pub run_until : (xs : List ℕ) {r : Option ℕ} → r ≡ position p xs → unwrap_or r (length xs) ≡ run (λ x. not (p x)) xs
+  run_until xs e =
+      rw e (found_at (position_or_len p xs) (length xs) (omega (arith, runs_until xs, run-le (λ x. not (p x)) xs)) ∙ runs_until xs)

@@ -1,15 +1,7 @@
 -- Immediates: `#` decimal or `#0x` hex, one `+` allowed before the digits, at most 65,535, else 24.
-use Rattle.std.specs.Prelude.{ℕ, ◌+◌, ◌-◌, ◌*◌, List, [], ◌∷◌, Bool, true, false, ◌&&◌, drop, ltb, leb, eqb}
+use Rattle.std.specs.Prelude.{ℕ, ◌+◌, ◌-◌, ◌*◌, List, [], ◌∷◌, Bool, true, false, ◌&&◌, Option, Some, None, drop, ltb, leb, eqb}
 use Rattle.base.specs.Choice.{cond}
-use Rattle.base.specs.Numbers.{number_of}
 use Rattle.base.specs.Told.{Told, is, no}
-use Rattle.text.specs.declared.Immediate.{Immediate}
-use Rattle.text.specs.declared.Immediate.TheVariants.{Is, Refused}
-
--- what the functions answer, in document 01's numbers
-abbrev pub told : Immediate → Told ℕ
-told (Is v) = is v
-told (Refused r) = no (number_of r)
 
 -- the value of a digit, 0 to 9 or a letter to F in either case; 99, which no base reaches, for a byte that is none
 unfoldable pub digit_of : ℕ → ℕ
@@ -17,6 +9,10 @@ digit_of b =
     cond (leb 48 b && leb b 57) (b - 48)
     (cond (leb 65 b && leb b 70) (b - 55)
     (cond (leb 97 b && leb b 102) (b - 87) 99))
+
+-- the digit that a byte is in a base of at most 16, if it is one
+abbrev pub digit_in : ℕ → ℕ → Option ℕ
+digit_in base b = cond (ltb (digit_of b) base) (Some (digit_of b)) None
 
 abbrev pub all_digits : ℕ → List ℕ → Bool
 all_digits base [] = true

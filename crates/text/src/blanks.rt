@@ -6,13 +6,21 @@ ghost use Rattle.text.specs.Parts.{is_blank, not_blank, run};
 pub fn is_blank(b: u8) -> bool
     ensures { result ≡ is_blank b }
 {
-    if b < 9 {
-        return false;
-    }
-    if b <= 13 {
-        return true;
-    }
-    b == 32
+    matches!(b, 9..=13 | 32)
+}
+
+// How many blanks stand at the front.
+fn blanks(s: &[u8]) -> usize
+    ensures { (result ≡ run is_blank s.now) × (result ≤ length s.now) }
+{
+    s.iter().position(|b| !is_blank(*b)).unwrap_or(s.len())
+}
+
+// How many bytes that are no blanks stand at the front.
+fn word(s: &[u8]) -> usize
+    ensures { (result ≡ run not_blank s.now) × (result ≤ length s.now) }
+{
+    s.iter().position(|b| is_blank(*b)).unwrap_or(s.len())
 }
 
 // Where the blanks that start at `from` end.
@@ -20,14 +28,7 @@ pub fn past_blanks(s: &[u8], from: usize) -> usize
     requires { from ≤ length s.now }
     ensures { (result ≡ from + run is_blank (drop from s.now)) × (result ≤ length s.now) }
 {
-    let mut i = from;
-    while i < s.len() {
-        if !is_blank(s[i]) {
-            return i;
-        }
-        i += 1;
-    }
-    i
+    from + blanks(&s[from..])
 }
 
 // Where the bytes from `from` on that are no blanks end.
@@ -35,12 +36,5 @@ pub fn past_word(s: &[u8], from: usize) -> usize
     requires { from ≤ length s.now }
     ensures { (result ≡ from + run not_blank (drop from s.now)) × (result ≤ length s.now) }
 {
-    let mut i = from;
-    while i < s.len() {
-        if is_blank(s[i]) {
-            return i;
-        }
-        i += 1;
-    }
-    i
+    from + word(&s[from..])
 }

@@ -1,103 +1,65 @@
 // Immediates.
 ghost use Rattle.std.specs.Prelude.{◌≡◌, ◌≤◌};
-ghost use Rattle.text.specs.Immediates.{told, digit_of, digits, is_hex, after_plus, value_of, immediate};
+ghost use Rattle.base.specs.Told.{told};
+ghost use Rattle.text.specs.Immediates.{digit_in, digits, after_plus, value_of, immediate};
 
-use crate::Immediate;
 use base::Refusal;
 
-// The value of a digit, in either case; 99 of another byte.
-#[tactic(auto, unfolding(crate::specs::Immediates::digit_of))]
-fn digit(b: u8) -> u32
-    ensures { (result ≡ digit_of b) × (result ≤ 99) }
+// The digit that a byte is in this base, in either case.
+#[tactic(auto, using(crate::proofs::ImmediateLaws::digit_is))]
+fn digit(b: u8, base: u32) -> Option<u32>
+    requires { (2 ≤ base) × (base ≤ 16) }
+    ensures { result ≡ digit_in base b }
 {
-    if b < 48 {
-        return 99;
-    }
-    if b <= 57 {
-        return (b - 48) as u32;
-    }
-    if b < 65 {
-        return 99;
-    }
-    if b <= 70 {
-        return (b - 55) as u32;
-    }
-    if b < 97 {
-        return 99;
-    }
-    if b <= 102 {
-        return (b - 87) as u32;
-    }
-    99
+    char::from(b).to_digit(base)
 }
 
 // The number that the digits of `s` are, at most 65,535.
-#[tactic(auto, using(crate::proofs::ImmediateLaws::num_past))]
-fn number(s: &[u8], base: u32) -> Immediate
-    requires { (1 ≤ base) × (base ≤ 16) }
+#[tactic(auto, using(crate::proofs::ImmediateLaws::digit_laws))]
+fn number(s: &[u8], base: u32) -> Result<u16, Refusal>
+    requires { (2 ≤ base) × (base ≤ 16) }
     ensures { told result ≡ digits base s.now }
 {
-    if s.len() == 0 {
-        return Immediate::Refused(Refusal::InvalidImmediate);
+    if s.is_empty() {
+        return Err(Refusal::InvalidImmediate);
     }
-    let mut v: u32 = 0;
-    let mut i = 0;
-    while i < s.len() {
-        let d = digit(s[i]);
-        if base <= d {
-            return Immediate::Refused(Refusal::InvalidImmediate);
+    let mut value = 0;
+    for b in s {
+        let digit = digit(*b, base).ok_or(Refusal::InvalidImmediate)?;
+        value = value * base + digit;
+        if 65535 < value {
+            return Err(Refusal::InvalidImmediate);
         }
-        v = v * base + d;
-        if 65535 < v {
-            return Immediate::Refused(Refusal::InvalidImmediate);
-        }
-        i += 1;
     }
-    Immediate::Is(v as u16)
+    Ok(value as u16)
 }
 
 // Without one `+` at the front.
 fn after_plus(s: &[u8]) -> &[u8]
     ensures { result.now ≡ after_plus s.now }
 {
-    if s.len() == 0 {
-        return &s[0..];
+    match s {
+        [b'+', digits @ ..] => digits,
+        _ => s,
     }
-    if s[0] == 43 { &s[1..] } else { &s[0..] }
-}
-
-// Does it start with `0x`?
-fn is_hex(s: &[u8]) -> bool
-    ensures { result ≡ is_hex s.now }
-{
-    if s.len() < 2 {
-        return false;
-    }
-    if s[0] != 48 {
-        return false;
-    }
-    s[1] == 120
 }
 
 // What stands after the `#`.
-fn value(s: &[u8]) -> Immediate
+fn value(s: &[u8]) -> Result<u16, Refusal>
     ensures { told result ≡ value_of s.now }
 {
-    if is_hex(s) {
-        return number(after_plus(&s[2..]), 16);
+    match s {
+        [b'0', b'x', hex @ ..] => number(after_plus(hex), 16),
+        _ => number(after_plus(s), 10),
     }
-    number(after_plus(s), 10)
 }
 
 #[tactic(auto, unfolding(crate::specs::Immediates::immediate))]
-pub fn parse_immediate(token: &[u8]) -> Immediate
+pub fn parse_immediate(token: &[u8]) -> Result<u16, Refusal>
     ensures { told result ≡ immediate token.now }
 {
-    if token.len() == 0 {
-        return Immediate::Refused(Refusal::InvalidImmediate);
+    match token {
+        [b'#', rest @ ..] => value(rest),
+        _ => Err(Refusal::InvalidImmediate),
     }
-    if token[0] != 35 {
-        return Immediate::Refused(Refusal::InvalidImmediate);
-    }
-    value(&token[1..])
 }

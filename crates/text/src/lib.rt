@@ -7,16 +7,8 @@ mod lines;
 mod parts;
 mod tokens;
 
-use base::Refusal;
 pub use blanks::past_blanks;
 pub use immediates::parse_immediate;
 pub use lines::line_end;
 pub use parts::{drop_final, drop_leading, same, trim_end};
 pub use tokens::{count_tokens, second_start, token};
-
-// What reading an immediate answers.
-#[derive(Clone, Copy)]
-pub enum Immediate {
-    Is(u16),
-    Refused(Refusal),
-}

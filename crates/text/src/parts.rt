@@ -5,61 +5,48 @@ ghost use Rattle.text.specs.Parts.{equals, is_blank, drop_end, drop_front};
 
 use crate::blanks::is_blank;
 
-// Are the two the same bytes? Names of one length often begin alike and differ in a number at the end: so the end is compared first.
+// Are the two the same bytes?
+#[tactic(auto, using(crate::proofs::PartLaws::same_is))]
 pub fn same(a: &[u8], b: &[u8]) -> bool
     ensures { result ≡ same a.now b.now }
 {
-    if a.len() != b.len() {
-        return false;
-    }
-    let mut i = a.len();
-    while 0 < i {
-        i -= 1;
-        if a[i] != b[i] {
-            return false;
-        }
-    }
-    true
+    a == b
 }
 
 // Without all bytes `b` at the end.
+#[tactic(auto, using(crate::proofs::PartLaws::end_laws))]
 pub fn drop_final(s: &[u8], b: u8) -> &[u8]
     ensures { result.now ≡ drop_end (equals b) s.now }
 {
-    let mut e = s.len();
-    while 0 < e {
-        if s[e - 1] != b {
-            return &s[..e];
+    let mut part = s;
+    while let [front @ .., last] = part {
+        if *last != b {
+            return part;
         }
-        e -= 1;
+        part = front;
     }
-    &s[..e]
+    part
 }
 
 // Without all bytes `b` at the front.
 pub fn drop_leading(s: &[u8], b: u8) -> &[u8]
     ensures { result.now ≡ drop_front (equals b) s.now }
 {
-    let mut i = 0;
-    while i < s.len() {
-        if s[i] != b {
-            return &s[i..];
-        }
-        i += 1;
-    }
-    &s[i..]
+    let n = s.iter().position(|x| *x != b).unwrap_or(s.len());
+    &s[n..]
 }
 
 // Without the blanks at the end.
+#[tactic(auto, using(crate::proofs::PartLaws::end_laws))]
 pub fn trim_end(s: &[u8]) -> &[u8]
     ensures { result.now ≡ drop_end is_blank s.now }
 {
-    let mut e = s.len();
-    while 0 < e {
-        if !is_blank(s[e - 1]) {
-            return &s[..e];
+    let mut part = s;
+    while let [front @ .., last] = part {
+        if !is_blank(*last) {
+            return part;
         }
-        e -= 1;
+        part = front;
     }
-    &s[..e]
+    part
 }

@@ -28,10 +28,8 @@ pub fn token(line: &[u8], k: usize) -> &[u8]
     ensures { result.now ≡ token_at line.now k }
 {
     let mut at = 0;
-    let mut i = 0;
-    while i < k {
+    for _i in 0..k {
         at = past_token(line, at);
-        i += 1;
     }
     token_from(line, at)
 }
@@ -61,12 +59,10 @@ pub fn count_tokens(s: &[u8]) -> usize
     ensures { result ≡ length (tokens s.now) }
 {
     let mut n = 0;
-    let mut i = 0;
-    while i < s.len() {
+    for i in 0..s.len() {
         if ends_word(s, i) {
             n += 1;
         }
-        i += 1;
     }
     n
 }

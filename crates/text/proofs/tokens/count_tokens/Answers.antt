@@ -8,6 +8,6 @@ loop-i-preserved c =
     let s = c.args.s.now in
     let h : c.loop-i.i < length s = omega arith in
     elim c.if-ends_word.branch [
-      | then-ends_word w ↦ (omega arith, omega arith, omega (arith, ends-yes s c.loop-i.i h (sym c.ends_word.ensures ∙ w.if-ends_word.true)))
-      | else-ends_word w ↦ (omega arith, omega arith, omega (arith, ends-no s c.loop-i.i h (sym c.ends_word.ensures ∙ w.if-ends_word.false)))
+      | then-ends_word w ↦ (omega arith, omega (arith, ends-yes s c.loop-i.i h (sym c.ends_word.ensures ∙ w.if-ends_word.true)))
+      | else-ends_word w ↦ (omega arith, omega (arith, ends-no s c.loop-i.i h (sym c.ends_word.ensures ∙ w.if-ends_word.false)))
     ]

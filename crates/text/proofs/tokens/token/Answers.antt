@@ -9,7 +9,6 @@ loop-i-preserved c =
     let s = c.args.line.now in
     let a = c.loop-i.at in (
       omega arith,
-      omega arith,
       ap (λ (k : ℕ). tokens (drop k s)) c.past_token-at.ensures.0 ∙ ap tokens (sym (drop-drop (past_first (drop a s)) a s)) ∙
-          sym (tok-tail (drop a s)) ∙ ap others c.loop-i.invariant.2 ∙ tail-drop (tokens s) c.loop-i.i,
+          sym (tok-tail (drop a s)) ∙ ap others c.loop-i.invariant.1 ∙ tail-drop (tokens s) c.loop-i._i,
     )
