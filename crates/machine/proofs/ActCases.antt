@@ -4,13 +4,12 @@
 use mathlib.Core.Path.{◌≡◌, refl, subst}
 use mathlib.Core.Bool.{Bool, true, false}
 use Prim.Native.Nat.{ℕ, ◌≤◌}
+use Rattle.std.specs.Prelude.{Option, Some, None}
 use native.Mathlib.Omega as Omega
 use Rattle.base.specs.Choice.{cond}
 use Rattle.base.specs.Told.{Told, is, no, ◌>>=◌}
 use Rattle.base.specs.Words.{low_of}
 use Rattle.base.specs.Addresses.{base_plus_shift, raised_pc, address_or}
-use Rattle.base.specs.declared.addresses.Reached.{Reached}
-use Rattle.base.specs.declared.addresses.Reached.TheVariants.{At, Past}
 use Rattle.base.proofs.ToldLaws.{Numbered}
 use Rattle.instruction.specs.Decode.{decode}
 use Rattle.instruction.proofs.DecodedLaws.{decode-numbered}
@@ -28,22 +27,23 @@ use Rattle.arithmetic.specs.Flags.{compared, failed}
 use Rattle.arithmetic.specs.Shifts.{moved}
 use Rattle.arithmetic.specs.Totals.{remainder}
 use Rattle.map.specs.declared.Map.{Map}
+use Rattle.map.specs.declared.Place.{Place}
 use Rattle.memory.specs.Bytes.{Lent, read_byte}
-use Rattle.memory.specs.Words.{Reading, a_word, no_word, read_word, Ending, Decided, byte_decision, word_decision}
-use Rattle.memory.specs.Words as memory
+use Rattle.memory.specs.Words.{read_word, Decided, byte_decision, word_decision}
 use Rattle.memory.proofs.Decisions.{byte-numbered, word-numbered}
 use Rattle.memory.proofs.WordLaws.{read-numbered}
-use Rattle.memory.specs.declared.Read.{Read}
-use Rattle.memory.specs.declared.Read.TheVariants.{Byte, Unmapped}
+use Rattle.memory.specs.declared.Stored.{Stored}
+use Rattle.memory.specs.declared.Stored.TheVariants.{Done, Failed}
 use Rattle.memory.specs.declared.Changes.{Changes}
 use Rattle.memory.specs.declared.Changes.TheVariants.{Nothing}
-use Rattle.machine.specs.Answers.{Reply, Continue, Debug, Stop}
 use Rattle.machine.specs.Registers.{get, put, operand, flag}
 use Rattle.machine.specs.Acts.{Act, next, jump, onward, noop, mov, mov_shift, result_of, at_old_sp, kept, arith, arith_reg_reg, marked, cmp, jmp, cond_jmp, call, call_ret, word_loaded, byte_loaded, fault, ended, storing, word_at, byte_at, addressed, copied, cpy, act}
 use Rattle.machine.specs.Plan.{Planned, plans, refusal, raised, finished, decoded, fetched, plan}
 use Rattle.machine.specs.Stores.{Storing, nothing, one_byte, one_word, at_address, copy_to, remainder_to, storing_of}
 use Rattle.machine.specs.declared.Machine.{Machine}
 use Rattle.machine.specs.declared.Registers.{Registers}
+use Rattle.machine.specs.declared.StepAnswer.{StepAnswer}
+use Rattle.machine.specs.declared.StepAnswer.TheVariants.{Continue, Debug, Stop}
 
 -- what is stored, as memory decides it
 abbrev pub changes_of : Map → Lent → Storing → Changes
@@ -53,7 +53,7 @@ changes_of m b (one_word a w) = (word_decision m b a w).changes
 
 -- three properties: of answers, of registers, of what is stored; and what every plan needs of the first two
 pub record Properties (m : Machine) : Type 1 where
-  pub Answered : Reply → Type 0
+  pub Answered : StepAnswer → Type 0
   pub Held : Registers → Type 0
   pub Stores : Changes → Type 0
   pub continues : Answered Continue
@@ -80,7 +80,7 @@ module _ (m : Machine) (b : Lent) (properties : Properties m) where
   Good (no n) = (2 ≤ n) × (n ≤ 9)
 
   -- a plan by its answer: one that is refused is the refusal, with 2 to 9, and changes nothing
-  abbrev pub GoodAs : Planned → Told Reply → Type 0
+  abbrev pub GoodAs : Planned → Told StepAnswer → Type 0
   GoodAs p (is a) = Answered a × Held p.registers × Stores p.changes
   GoodAs p (no n) = (p ≡ plans (no n) s Nothing) × (2 ≤ n) × (n ≤ 9)
 
@@ -126,22 +126,22 @@ module _ (m : Machine) (b : Lent) (properties : Properties m) where
   unfolding call
   call-good address h = go (raised_pc (get s PC))
     where
-      go : (x : Reached) → Good (address_or 9 x >>= λ n. is (jump (put (put s PC address) M n)))
-      go (At n) = (puts (put s PC address) M n (one-put PC address), h)
-      go Past = (omega Omega.arith, omega Omega.arith)
+      go : (x : Option ℕ) → Good (address_or 9 x >>= λ n. is (jump (put (put s PC address) M n)))
+      go (Some n) = (puts (put s PC address) M n (one-put PC address), h)
+      go None = (omega Omega.arith, omega Omega.arith)
 
   -- ---- loads and stores
 
-  word-loaded-good : (r : Register) (x : Told Reading) → Numbered 3 3 x → Stores Nothing → Good (word_loaded s r x)
+  word-loaded-good : (r : Register) (x : Told (Option ℕ)) → Numbered 3 3 x → Stores Nothing → Good (word_loaded s r x)
   unfolding word_loaded
-  word-loaded-good r (is (a_word w)) k h = (continues, one-put r w, h)
-  word-loaded-good r (is no_word) k h = (continues, starts, h)
+  word-loaded-good r (is (Some w)) k h = (continues, one-put r w, h)
+  word-loaded-good r (is None) k h = (continues, starts, h)
   word-loaded-good r (no n) k h = (omega (Omega.arith, k.0), omega (Omega.arith, k.1))
 
-  byte-loaded-good : (r : Register) (x : Read) → Stores Nothing → Good (byte_loaded s r x)
+  byte-loaded-good : (r : Register) (x : Option (ℕ × Place)) → Stores Nothing → Good (byte_loaded s r x)
   unfolding byte_loaded
-  byte-loaded-good r (Byte v p) h = (continues, one-put r v, h)
-  byte-loaded-good r Unmapped h = (continues, starts, h)
+  byte-loaded-good r (Some (v, p)) h = (continues, one-put r v, h)
+  byte-loaded-good r None h = (continues, starts, h)
 
   fault-held : Held (fault s)
   unfolding fault
@@ -151,28 +151,28 @@ module _ (m : Machine) (b : Lent) (properties : Properties m) where
   unfolding storing ended
   storing-good d k h = go d.outcome k
     where
-      go : (x : Told Ending) → Numbered 3 3 x → Good (ended s d.changes x)
-      go (is memory.done) k = (continues, starts, h)
-      go (is memory.failed) k = (continues, fault-held, h)
+      go : (x : Told Stored) → Numbered 3 3 x → Good (ended s d.changes x)
+      go (is Done) k = (continues, starts, h)
+      go (is Failed) k = (continues, fault-held, h)
       go (no n) k = (omega (Omega.arith, k.0), omega (Omega.arith, k.1))
 
   byte-good : (a v : ℕ) → StoresOf (one_byte a v) → Good (storing s (byte_decision m.map b a v))
   byte-good a v h = storing-good (byte_decision m.map b a v) (byte-numbered m.map b a v) h
 
   -- an act at an address, where there is such an address
-  addressed-good : (a : Register) (shift : ℕ) (acts : ℕ → Told Act) → ((n : ℕ) → base_plus_shift (get s a) shift ≡ At n → Good (acts n))
+  addressed-good : (a : Register) (shift : ℕ) (acts : ℕ → Told Act) → ((n : ℕ) → base_plus_shift (get s a) shift ≡ Some n → Good (acts n))
       → Good (addressed s a shift acts)
   unfolding addressed
   addressed-good a shift acts good = go (base_plus_shift (get s a) shift) refl
     where
-      go : (x : Reached) → base_plus_shift (get s a) shift ≡ x → Good (address_or 3 x >>= acts)
-      go (At n) e = good n e
-      go Past e = (omega Omega.arith, omega Omega.arith)
+      go : (x : Option ℕ) → base_plus_shift (get s a) shift ≡ x → Good (address_or 3 x >>= acts)
+      go (Some n) e = good n e
+      go None e = (omega Omega.arith, omega Omega.arith)
 
   -- what it stores is stored there
-  stored_there : (storing : ℕ → Storing) {x : Reached} {n : ℕ} → x ≡ At n → StoresOf (at_address x storing) → StoresOf (storing n)
+  stored_there : (storing : ℕ → Storing) {x : Option ℕ} {n : ℕ} → x ≡ Some n → StoresOf (at_address x storing) → StoresOf (storing n)
   unfolding at_address
-  stored_there storing e h = subst (λ (x : Reached). StoresOf (at_address x storing)) e h
+  stored_there storing e h = subst (λ (x : Option ℕ). StoresOf (at_address x storing)) e h
 
   str-good : (r : Register) (a : ℕ) → StoresOf (one_word a (get s r)) → Good (word_at m.map b s r true a)
   unfolding word_at
@@ -190,10 +190,10 @@ module _ (m : Machine) (b : Lent) (properties : Properties m) where
   unfolding byte_at
   ldb-good r h a = byte-loaded-good r (read_byte m.map b a) h
 
-  copied-good : (to : ℕ) (x : Read) → StoresOf (copy_to to x) → Good (copied m.map b s to x)
+  copied-good : (to : ℕ) (x : Option (ℕ × Place)) → StoresOf (copy_to to x) → Good (copied m.map b s to x)
   unfolding copied copy_to
-  copied-good to (Byte v p) h = byte-good to v h
-  copied-good to Unmapped h = (continues, fault-held, h)
+  copied-good to (Some (v, p)) h = byte-good to v h
+  copied-good to None h = (continues, fault-held, h)
 
   -- ---- all twelve, where the property holds of what the instruction stores
 
@@ -224,9 +224,9 @@ module _ (m : Machine) (b : Lent) (properties : Properties m) where
   unfolding finished raised refusal
   finished-good (is (next a t c)) g = go (raised_pc (get t PC))
     where
-      go : (r : Reached) → GoodPlan (raised s a t c r)
-      go (At pc) = (g.0, puts t PC pc g.1, g.2)
-      go Past = (refl, omega Omega.arith, omega Omega.arith)
+      go : (r : Option ℕ) → GoodPlan (raised s a t c r)
+      go (Some pc) = (g.0, puts t PC pc g.1, g.2)
+      go None = (refl, omega Omega.arith, omega Omega.arith)
   finished-good (is (jump t)) g = (continues, g.0, g.1)
   finished-good (no n) g = (refl, g.0, g.1)
 
@@ -237,10 +237,10 @@ module _ (m : Machine) (b : Lent) (properties : Properties m) where
     decoded-good (is i) k = finished-good (act m b i) (act-good i (all (storing_of m b i)))
     decoded-good (no n) k = (refl, omega (Omega.arith, k.0), omega (Omega.arith, k.1))
 
-    fetched-good : (x : Told Reading) → Numbered 3 3 x → GoodPlan (fetched m b x)
+    fetched-good : (x : Told (Option ℕ)) → Numbered 3 3 x → GoodPlan (fetched m b x)
     unfolding fetched refusal
-    fetched-good (is (a_word w)) k = decoded-good (decode w) (decode-numbered w)
-    fetched-good (is no_word) k = (refl, omega Omega.arith, omega Omega.arith)
+    fetched-good (is (Some w)) k = decoded-good (decode w) (decode-numbered w)
+    fetched-good (is None) k = (refl, omega Omega.arith, omega Omega.arith)
     fetched-good (no n) k = (refl, omega (Omega.arith, k.0), omega (Omega.arith, k.1))
 
     pub plan-good : GoodPlan (plan m b)
@@ -255,6 +255,6 @@ module _ (m : Machine) (b : Lent) (properties : Properties m) where
     pub plan-gives : Held (plan m b).registers × Stores (plan m b).changes
     plan-gives = go (plan m b).answer plan-good
       where
-        go : (x : Told Reply) → GoodAs (plan m b) x → Held (plan m b).registers × Stores (plan m b).changes
+        go : (x : Told StepAnswer) → GoodAs (plan m b) x → Held (plan m b).registers × Stores (plan m b).changes
         go (is a) g = (g.1, g.2)
         go (no n) e = rw e.0 (starts, all nothing)

@@ -9,7 +9,7 @@ use lib.ListN.{length}
 use Rattle.base.specs.Choice.{cond}
 use Rattle.base.specs.Told.{Told, is, no}
 use Rattle.base.specs.Addresses.{raised_pc}
-use Rattle.base.specs.declared.addresses.Reached.TheVariants.{At}
+use Rattle.std.specs.Prelude.{Option, Some}
 use Rattle.base.proofs.AddressLaws.{reached-at}
 use Rattle.base.proofs.ToldLaws.{is-not-no, Numbered}
 use Rattle.instruction.specs.Decode.{decode}
@@ -17,17 +17,18 @@ use Rattle.instruction.specs.declared.Register.TheVariants.{PC}
 use Rattle.instruction.specs.declared.Instruction.TheVariants.{Noop}
 use Rattle.map.proofs.Laws.{valid-length}
 use Rattle.memory.specs.Bytes.{Lent}
-use Rattle.memory.specs.Words.{a_word, read_word, made}
+use Rattle.memory.specs.Words.{read_word, made}
 use Rattle.memory.specs.declared.Changes.TheVariants.{Nothing}
 use Rattle.memory.proofs.Laws.{SameLengths, same-lengths}
 use Rattle.memory.proofs.Decisions.{made-lengths, nothing-made}
-use Rattle.machine.specs.Answers.{Reply, Continue, Debug, Stop}
 use Rattle.machine.specs.Registers.{get, put, flag}
 use Rattle.machine.specs.Acts.{noop, act}
-use Rattle.machine.specs.Plan.{Planned, plans, raised, finished, decoded, fetched, plan}
+use Rattle.machine.specs.Plan.{Planned, plans, refusal, raised, finished, decoded, fetched, plan}
 use Rattle.machine.specs.Step.{After, after, committed, step}
 use Rattle.machine.specs.States.{valid, with}
 use Rattle.machine.specs.declared.Machine.{Machine}
+use Rattle.machine.specs.declared.StepAnswer.{StepAnswer}
+use Rattle.machine.specs.declared.StepAnswer.TheVariants.{Continue, Debug, Stop}
 use Rattle.machine.proofs.PlanLaws.{plan-refused, plan-numbered, plan-stops, plan-eight}
 use Rattle.machine.proofs.RegisterLaws.{get-own}
 
@@ -55,9 +56,14 @@ module _ (m : Machine) (b : Lent) where
   -- ---- what is not accepted changes nothing
 
   -- a plan that leaves the registers and stores nothing
-  nothing-done : (a : Told Reply) → plan m b ≡ plans a m.registers Nothing → committed m b (plan m b) ≡ after a m b
+  nothing-done : (a : Told StepAnswer) → plan m b ≡ plans a m.registers Nothing → committed m b (plan m b) ≡ after a m b
   unfolding committed
   nothing-done a e = ap (committed m b) e ∙ ap (λ (x : Lent). after a m x) (nothing-made b)
+
+  -- so a step whose plan is refused leaves all
+  pub refused_step : (n : ℕ) → valid m b.dev ≡ true → refusal m.registers n ≡ plan m b → after (no n) m b ≡ step m b
+  unfolding refusal
+  refused_step n h e = sym (valid-step h ∙ nothing-done (no n) (sym e))
 
   answer-of : valid m b.dev ≡ true → (step m b).answer ≡ (plan m b).answer
   unfolding committed
@@ -68,7 +74,7 @@ module _ (m : Machine) (b : Lent) where
   step-refused n = go (valid m b.dev) refl
     where
       go : (t : Bool) → valid m b.dev ≡ t → (step m b).answer ≡ no n → step m b ≡ after (no n) m b
-      go false h e = invalid-step h ∙ ap (λ (a : Told Reply). after a m b) (sym (ap (λ (x : After). x.answer) (invalid-step h)) ∙ e)
+      go false h e = invalid-step h ∙ ap (λ (a : Told StepAnswer). after a m b) (sym (ap (λ (x : After). x.answer) (invalid-step h)) ∙ e)
       go true h e = valid-step h ∙ nothing-done (no n) (plan-refused m b n (sym (answer-of h) ∙ e))
 
   -- Stop, which FLAGS bit 0 alone decides
@@ -97,7 +103,7 @@ module _ (m : Machine) (b : Lent) where
   unfolding committed
   step-numbered = every-step (λ (x : After). Numbered 1 9 x.answer) (omega arith, omega arith) (go (plan m b).answer (plan-numbered m b))
     where
-      go : (x : Told Reply) → Numbered 2 9 x → Numbered 1 9 x
+      go : (x : Told StepAnswer) → Numbered 2 9 x → Numbered 1 9 x
       go (is a) k = tt
       go (no n) k = (omega (arith, k.0), k.1)
 
@@ -127,7 +133,7 @@ module _ (m : Machine) (b : Lent) where
   -- ---- Noop raises PC, and does nothing else
 
   pub step-noop : (w n : ℕ) → valid m b.dev ≡ true → flag m.registers 0 ≡ false
-      → read_word m.map b (get m.registers PC) ≡ is (a_word w) → decode w ≡ is Noop → raised_pc (get m.registers PC) ≡ At n
+      → read_word m.map b (get m.registers PC) ≡ is (Some w) → decode w ≡ is Noop → raised_pc (get m.registers PC) ≡ Some n
       → step m b ≡ after (is (cond m.mode.debug Debug Continue)) (with m (put m.registers PC n)) b
   unfolding committed plan fetched decoded finished raised act noop
   step-noop w n h f r d p =
@@ -136,7 +142,7 @@ module _ (m : Machine) (b : Lent) where
 
   -- so a step that does nothing is ruled out
   pub noop-raises : (w : ℕ) → valid m b.dev ≡ true → flag m.registers 0 ≡ false
-      → read_word m.map b (get m.registers PC) ≡ is (a_word w) → decode w ≡ is Noop → get m.registers PC + 2 ≤ 65535 → length m.registers.value ≡ 8
+      → read_word m.map b (get m.registers PC) ≡ is (Some w) → decode w ≡ is Noop → get m.registers PC + 2 ≤ 65535 → length m.registers.value ≡ 8
       → get (step m b).machine.registers PC ≡ get m.registers PC + 2
   noop-raises w h f r d p l =
       ap (λ (x : After). get x.machine.registers PC) (step-noop w (get m.registers PC + 2) h f r d (reached-at (get m.registers PC + 2) p))

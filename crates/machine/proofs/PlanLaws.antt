@@ -10,11 +10,12 @@ use Rattle.base.proofs.ToldLaws.{Numbered}
 use Rattle.memory.specs.Bytes.{Lent}
 use Rattle.memory.specs.declared.Changes.TheVariants.{Nothing}
 use Rattle.memory.proofs.Decisions.{Sound, byte-sound, decision-sound}
-use Rattle.machine.specs.Answers.{Reply, Continue, Debug, Stop}
 use Rattle.machine.specs.Registers.{flag}
 use Rattle.machine.specs.Plan.{plans, plan}
 use Rattle.machine.specs.Stores.{Storing, nothing, one_byte, one_word}
 use Rattle.machine.specs.declared.Machine.{Machine}
+use Rattle.machine.specs.declared.StepAnswer.{StepAnswer}
+use Rattle.machine.specs.declared.StepAnswer.TheVariants.{Continue, Debug, Stop}
 use Rattle.machine.proofs.ActCases.{Properties, StoresOf, GoodAs, plan-good, plan-gives}
 use Rattle.machine.proofs.RegisterLaws.{put-length}
 
@@ -43,7 +44,7 @@ module _ (m : Machine) (b : Lent) where
   sound (one_byte a v) = byte-sound m.map b a v
   sound (one_word a w) = decision-sound m.map b a w
 
-  answered-as : (x : Told Reply) → (plan m b).answer ≡ x → GoodAs m b known (plan m b) x
+  answered-as : (x : Told StepAnswer) → (plan m b).answer ≡ x → GoodAs m b known (plan m b) x
   answered-as x e = subst (GoodAs m b known (plan m b)) e (plan-good m b known sound)
 
   pub plan-refused : (n : ℕ) → (plan m b).answer ≡ no n → plan m b ≡ plans (no n) m.registers Nothing
@@ -53,7 +54,7 @@ module _ (m : Machine) (b : Lent) where
   pub plan-numbered : Numbered 2 9 (plan m b).answer
   plan-numbered = go (plan m b).answer refl
     where
-      go : (x : Told Reply) → (plan m b).answer ≡ x → Numbered 2 9 x
+      go : (x : Told StepAnswer) → (plan m b).answer ≡ x → Numbered 2 9 x
       go (is a) e = tt
       go (no n) e = ((answered-as (no n) e).1, (answered-as (no n) e).2)
 

@@ -4,15 +4,15 @@ use mathlib.Core.Path.{◌≡◌, sym, ap, ◌∙◌, subst}
 use mathlib.Core.Bool.{true, false}
 use Prim.Native.Nat.{ℕ}
 use Rattle.base.specs.Told.{is}
+use Rattle.std.specs.Prelude.{Some}
 use Rattle.instruction.specs.Decode.{decode}
 use Rattle.instruction.specs.declared.Register.{Register}
 use Rattle.instruction.specs.declared.Register.TheVariants.{PC}
 use Rattle.instruction.specs.declared.Instruction.{Instruction}
 use Rattle.map.specs.declared.Map.{Map}
 use Rattle.memory.specs.Bytes.{Lent}
-use Rattle.memory.specs.Words.{made, a_word, read_word, word_stored, byte_stored, byte_decision, word_decision}
+use Rattle.memory.specs.Words.{made, read_word, word_stored, byte_stored, byte_decision, word_decision}
 use Rattle.memory.proofs.Decisions.{decision-makes, byte-makes, nothing-made, byte-outcome, word-outcome}
-use Rattle.machine.specs.Answers.{Reply}
 use Rattle.machine.specs.Registers.{get, flag}
 use Rattle.machine.specs.Acts.{ended, storing, word_at, act}
 use Rattle.machine.specs.Plan.{Planned, finished, decoded, fetched, plan}
@@ -21,6 +21,7 @@ use Rattle.machine.specs.States.{valid}
 use Rattle.machine.specs.Stores.{Storing, nothing, one_byte, one_word, stores, storing_of}
 use Rattle.machine.specs.declared.Machine.{Machine}
 use Rattle.machine.specs.declared.Registers.{Registers}
+use Rattle.machine.specs.declared.StepAnswer.{StepAnswer}
 use Rattle.machine.proofs.ActCases.{changes_of, Properties, GoodAs, act-good, finished-good}
 use Rattle.machine.proofs.Laws.{valid-step}
 
@@ -59,15 +60,15 @@ module _ (m : Machine) (b : Lent) (i : Instruction) where
   abbrev done : Planned
   done = finished m.registers (act m b i)
 
-  done-leaves : (z : Reply) → done.answer ≡ is z → made done.changes b ≡ stores m.map b (storing_of m b i)
+  done-leaves : (z : StepAnswer) → done.answer ≡ is z → made done.changes b ≡ stores m.map b (storing_of m b i)
   done-leaves z e =
       let good = finished-good m b leaves (act m b i) (act-good m b leaves i (stores-made m.map b (storing_of m b i))) in
       (subst (GoodAs m b leaves done) e good).2
 
 -- ---- and so does an accepted step
 
-pub step-stores : (m : Machine) (b : Lent) (w : ℕ) (i : Instruction) (z : Reply) → valid m b.dev ≡ true → flag m.registers 0 ≡ false
-    → read_word m.map b (get m.registers PC) ≡ is (a_word w) → decode w ≡ is i → (step m b).answer ≡ is z
+pub step-stores : (m : Machine) (b : Lent) (w : ℕ) (i : Instruction) (z : StepAnswer) → valid m b.dev ≡ true → flag m.registers 0 ≡ false
+    → read_word m.map b (get m.registers PC) ≡ is (Some w) → decode w ≡ is i → (step m b).answer ≡ is z
     → (step m b).bytes ≡ stores m.map b (storing_of m b i)
 unfolding committed plan fetched decoded
 step-stores m b w i z h f r d e =

@@ -1,5 +1,5 @@
 -- What each instruction does, a rule for each: the registers after it, the bytes it stores, and whether PC is then raised.
-use Rattle.std.specs.Prelude.{ℕ, Bool, true, false}
+use Rattle.std.specs.Prelude.{ℕ, Bool, true, false, Option, Some, None}
 use Rattle.base.specs.Choice.{cond}
 use Rattle.base.specs.Told.{Told, is, no, ◌>>=◌}
 use Rattle.base.specs.Words.{low_of}
@@ -19,23 +19,24 @@ use Rattle.arithmetic.specs.Compares.{compare}
 use Rattle.arithmetic.specs.Shifts.{moved}
 use Rattle.arithmetic.specs.Flags.{compared, failed}
 use Rattle.map.specs.declared.Map.{Map}
+use Rattle.map.specs.declared.Place.{Place}
 use Rattle.memory.specs.Bytes.{Lent, read_byte}
-use Rattle.memory.specs.Words.{Reading, a_word, no_word, read_word, Ending, Decided, byte_decision, word_decision}
-use Rattle.memory.specs.Words as memory
-use Rattle.memory.specs.declared.Read.{Read}
-use Rattle.memory.specs.declared.Read.TheVariants.{Byte, Unmapped}
+use Rattle.memory.specs.Words.{read_word, Decided, byte_decision, word_decision}
+use Rattle.memory.specs.declared.Stored.{Stored}
+use Rattle.memory.specs.declared.Stored.TheVariants.{Done, Failed}
 use Rattle.memory.specs.declared.Changes.{Changes}
 use Rattle.memory.specs.declared.Changes.TheVariants.{Nothing}
-use Rattle.machine.specs.Answers.{Reply, Continue, Debug}
 use Rattle.machine.specs.Registers.{get, put, operand, flag}
 use Rattle.machine.specs.declared.Machine.{Machine}
 use Rattle.machine.specs.declared.Mode.{Mode}
 use Rattle.machine.specs.declared.Registers.{Registers}
+use Rattle.machine.specs.declared.StepAnswer.{StepAnswer}
+use Rattle.machine.specs.declared.StepAnswer.TheVariants.{Continue, Debug}
 
 -- what acting comes to: an answer, registers in which PC is yet to be raised, and the bytes to be stored;
 -- or, for what skips the raising, registers with PC as it stays
 pub data Act : Type 0 where
-  next : Reply → Registers → Changes → Act
+  next : StepAnswer → Registers → Changes → Act
   jump : Registers → Act
 
 -- it goes on with these registers, and stores nothing
@@ -103,23 +104,23 @@ call_ret s false address = call s address
 -- ---- loads, stores, Cpy
 
 -- a failed load leaves its register
-unfoldable pub word_loaded : Registers → Register → Told Reading → Told Act
-word_loaded s r (is (a_word w)) = onward (put s r w)
-word_loaded s r (is no_word) = onward s
+unfoldable pub word_loaded : Registers → Register → Told (Option ℕ) → Told Act
+word_loaded s r (is (Some w)) = onward (put s r w)
+word_loaded s r (is None) = onward s
 word_loaded s r (no n) = no n
 
-unfoldable pub byte_loaded : Registers → Register → Read → Told Act
-byte_loaded s r (Byte v p) = onward (put s r v)
-byte_loaded s r Unmapped = onward s
+unfoldable pub byte_loaded : Registers → Register → Option (ℕ × Place) → Told Act
+byte_loaded s r (Some (v, p)) = onward (put s r v)
+byte_loaded s r None = onward s
 
 -- FLAGS bits 0 and 2
 unfoldable pub fault : Registers → Registers
 fault s = put s FLAGS (failed (get s FLAGS))
 
 -- a failed store sets them; what it stored stays
-unfoldable pub ended : Registers → Changes → Told Ending → Told Act
-ended s c (is memory.done) = is (next Continue s c)
-ended s c (is memory.failed) = is (next Continue (fault s) c)
+unfoldable pub ended : Registers → Changes → Told Stored → Told Act
+ended s c (is Done) = is (next Continue s c)
+ended s c (is Failed) = is (next Continue (fault s) c)
 ended s c (no n) = no n
 
 -- as memory decides it
@@ -140,9 +141,9 @@ unfoldable pub addressed : Registers → Register → ℕ → (ℕ → Told Act)
 addressed s a shift acts = address_or 3 (base_plus_shift (get s a) shift) >>= acts
 
 -- an unmapped source is a failed Cpy too
-unfoldable pub copied : Map → Lent → Registers → ℕ → Read → Told Act
-copied m b s to (Byte v p) = storing s (byte_decision m b to v)
-copied m b s to Unmapped = onward (fault s)
+unfoldable pub copied : Map → Lent → Registers → ℕ → Option (ℕ × Place) → Told Act
+copied m b s to (Some (v, p)) = storing s (byte_decision m b to v)
+copied m b s to None = onward (fault s)
 
 unfoldable pub cpy : Map → Lent → Registers → Register → Register → Told Act
 cpy m b s x y = copied m b s (get s y) (read_byte m b (get s x))

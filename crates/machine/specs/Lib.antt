@@ -1,4 +1,3 @@
-pub mod Answers
 pub mod Registers
 pub mod Acts
 pub mod States

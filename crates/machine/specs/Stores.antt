@@ -1,22 +1,19 @@
 -- What each instruction stores, and nothing else, in the step paragraph's words. That an accepted step leaves just the bytes
 -- of these stores is a law (proofs/StoreLaws.antt).
-use Rattle.std.specs.Prelude.{ℕ, true, false}
+use Rattle.std.specs.Prelude.{ℕ, true, false, Option, Some, None}
 use Rattle.base.specs.Choice.{cond}
 use Rattle.base.specs.Told.{Told, is, no}
 use Rattle.base.specs.Words.{low_of}
 use Rattle.base.specs.Addresses.{base_plus_shift}
-use Rattle.base.specs.declared.addresses.Reached.{Reached}
-use Rattle.base.specs.declared.addresses.Reached.TheVariants.{At, Past}
 use Rattle.instruction.specs.declared.Register.TheVariants.{SP}
 use Rattle.instruction.specs.declared.ArithOp.TheVariants.{Add, Sub, Mul, Div}
 use Rattle.instruction.specs.declared.Instruction.{Instruction}
 use Rattle.instruction.specs.declared.Instruction.TheVariants.{Noop, Mov, MovShift, Arith, ArithRegReg, LdrStr, LdbStb, Cpy, Jmp, CondJmp, Cmp, CallRet}
 use Rattle.arithmetic.specs.Totals.{remainder}
 use Rattle.map.specs.declared.Map.{Map}
+use Rattle.map.specs.declared.Place.{Place}
 use Rattle.memory.specs.Bytes.{Lent, read_byte, store_byte}
 use Rattle.memory.specs.Words.{store_word}
-use Rattle.memory.specs.declared.Read.{Read}
-use Rattle.memory.specs.declared.Read.TheVariants.{Byte, Unmapped}
 use Rattle.machine.specs.Registers.{get, operand, flag}
 use Rattle.machine.specs.declared.Machine.{Machine}
 use Rattle.machine.specs.declared.Registers.{Registers}
@@ -34,14 +31,14 @@ stores m b (one_byte a v) = store_byte m b a v
 stores m b (one_word a w) = store_word m b a w
 
 -- at base plus shift, where there is such an address
-unfoldable pub at_address : Reached → (ℕ → Storing) → Storing
-at_address (At a) storing = storing a
-at_address Past storing = nothing
+unfoldable pub at_address : Option ℕ → (ℕ → Storing) → Storing
+at_address (Some a) storing = storing a
+at_address None storing = nothing
 
 -- the byte that was read
-unfoldable pub copy_to : ℕ → Read → Storing
-copy_to a (Byte v p) = one_byte a v
-copy_to a Unmapped = nothing
+unfoldable pub copy_to : ℕ → Option (ℕ × Place) → Storing
+copy_to a (Some (v, p)) = one_byte a v
+copy_to a None = nothing
 
 -- the remainder's low byte at the old SP
 unfoldable pub remainder_to : Registers → Told ℕ → Storing

@@ -1,7 +1,7 @@
 // Instructions that move, reckon and compare.
 ghost use Rattle.std.specs.Prelude.{◌≡◌};
 ghost use Rattle.instruction.specs.declared.ArithOp.{ArithOp};
-ghost use Rattle.arithmetic.specs.Totals.{total};
+ghost use Rattle.base.specs.Told.{told};
 ghost use Rattle.memory.specs.Bytes.{lent};
 ghost use Rattle.machine.specs.Acts as act;
 ghost use Rattle.machine.specs.Moves.{Moves, regs};
@@ -10,25 +10,31 @@ ghost use Rattle.machine.specs.Plan.{finished};
 use crate::operands::{flag, get, mark, operand};
 use crate::plans::{go_on, settle, stay};
 use crate::{Mode, Move};
-use arithmetic::Total;
+use base::Refusal;
 use instruction::{ArithOp, ArithmeticOp, CompareOp, Operand, Register};
 use map::Map;
 use memory::Changes;
 
 // Nothing but PC.
-pub fn noop(mode: Mode, s: &[u16; 8]) -> Move
+pub fn noop(mode: Mode, s: &[u16; 8]) -> Result<Move, Refusal>
     ensures { Moves s.now result (λ g. finished g (act.noop mode g)) }
 {
     stay(s, mode.debug, Changes::Nothing)
 }
 
-pub fn mov(s: &[u16; 8], d: Register, o: Operand) -> Move
+pub fn mov(s: &[u16; 8], d: Register, o: Operand) -> Result<Move, Refusal>
     ensures { Moves s.now result (λ g. finished g (act.mov g d o)) }
 {
     go_on(s, d, operand(s, o), Changes::Nothing)
 }
 
-pub fn mov_shift(s: &[u16; 8], d: Register, amount: u8, left: bool, imm: u16) -> Move
+pub fn mov_shift(
+    s: &[u16; 8],
+    d: Register,
+    amount: u8,
+    left: bool,
+    imm: u16,
+) -> Result<Move, Refusal>
     ensures { Moves s.now result (λ g. finished g (act.mov_shift g d amount left imm)) }
 {
     let v = arithmetic::moved(get(s, d), amount, left, imm);
@@ -36,15 +42,12 @@ pub fn mov_shift(s: &[u16; 8], d: Register, amount: u8, left: bool, imm: u16) ->
 }
 
 // Where a remainder goes: its low byte at the old SP, if that takes a store.
-fn at_old_sp(m: Map, mem: &[u8], dev: &[u8], s: &[u16; 8], x: Total) -> Changes
-    ensures { result ≡ act.at_old_sp m (lent mem.now dev.now) (regs s.now) (total x) }
+fn at_old_sp(m: Map, mem: &[u8], dev: &[u8], s: &[u16; 8], x: Result<u16, Refusal>) -> Changes
+    ensures { result ≡ act.at_old_sp m (lent mem.now dev.now) (regs s.now) (told x) }
 {
     match x {
-        Total::Is(v) => {
-            let d = memory::decide_byte(m, mem, dev, get(s, Register::SP), base::low(v));
-            d.changes
-        }
-        Total::Refused(_) => Changes::Nothing,
+        Ok(v) => { memory::decide_byte(m, mem, dev, get(s, Register::SP), base::low(v)).changes }
+        Err(_) => Changes::Nothing,
     }
 }
 
@@ -78,7 +81,7 @@ pub fn arith(
     d: Register,
     o: Operand,
     op: ArithOp,
-) -> Move
+) -> Result<Move, Refusal>
     ensures { Moves s.now result (λ g. finished g (act.arith m (lent mem.now dev.now) g d o op)) }
 {
     let x = get(s, d);
@@ -87,14 +90,20 @@ pub fn arith(
     settle(s, d, arithmetic::arith(op, x, y), c)
 }
 
-pub fn arith_reg_reg(s: &[u16; 8], d: Register, x: Register, y: Register, op: ArithmeticOp) -> Move
+pub fn arith_reg_reg(
+    s: &[u16; 8],
+    d: Register,
+    x: Register,
+    y: Register,
+    op: ArithmeticOp,
+) -> Result<Move, Refusal>
     ensures { Moves s.now result (λ g. finished g (act.arith_reg_reg g d x y op)) }
 {
     let v = arithmetic::arithmetic(op, get(s, x), get(s, y));
     settle(s, d, v, Changes::Nothing)
 }
 
-pub fn cmp(s: &[u16; 8], r: Register, o: Operand, op: CompareOp) -> Move
+pub fn cmp(s: &[u16; 8], r: Register, o: Operand, op: CompareOp) -> Result<Move, Refusal>
     ensures { Moves s.now result (λ g. finished g (act.cmp g r o op)) }
 {
     let holds = arithmetic::compare(op, get(s, r), operand(s, o));

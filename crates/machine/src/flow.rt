@@ -6,46 +6,45 @@ ghost use Rattle.machine.specs.Plan.{finished};
 
 use crate::Move;
 use crate::operands::{flag, get, mark, operand, operand_after};
-use crate::plans::{land, refused, stay};
-use base::{Reached, Refusal};
+use crate::plans::{land, stay};
+use base::Refusal;
 use instruction::{Operand, Register};
 use memory::Changes;
 
 pub fn jmp(s: &[u16; 8], o: Operand) -> Move
-    ensures { Moves s.now result (λ g. finished g (act.jmp g o)) }
+    ensures { Moves s.now (Ok result) (λ g. finished g (act.jmp g o)) }
 {
     let v = operand(s, o);
     land(s, Register::PC, v, v)
 }
 
 // The flag that it looks at is cleared before its operand is read.
-pub fn cond_jmp(s: &[u16; 8], o: Operand) -> Move
+pub fn cond_jmp(s: &[u16; 8], o: Operand) -> Result<Move, Refusal>
     ensures { Moves s.now result (λ g. finished g (act.cond_jmp g o)) }
 {
     if flag(s, 3) {
         let v = mark(s, false);
         let pc = operand_after(*s, Register::FLAGS, v, o);
-        land(s, Register::FLAGS, v, pc)
+        Ok(land(s, Register::FLAGS, v, pc))
     } else {
         stay(s, false, Changes::Nothing)
     }
 }
 
-fn call(s: &[u16; 8], address: u16) -> Move
+#[tactic(auto, unfolding(crate::specs::Acts::call, crate::specs::Plan::finished))]
+fn call(s: &[u16; 8], address: u16) -> Result<Move, Refusal>
     ensures { Moves s.now result (λ g. finished g (act.call g address)) }
 {
-    match base::raised_pc(get(s, Register::PC)) {
-        Reached::At(n) => land(s, Register::M, n, address),
-        Reached::Past => refused(s, Refusal::PcOverflow),
-    }
+    let n = base::raised_pc(get(s, Register::PC)).ok_or(Refusal::PcOverflow)?;
+    Ok(land(s, Register::M, n, address))
 }
 
-pub fn call_ret(s: &[u16; 8], ret: bool, address: u16) -> Move
+pub fn call_ret(s: &[u16; 8], ret: bool, address: u16) -> Result<Move, Refusal>
     ensures { Moves s.now result (λ g. finished g (act.call_ret g ret address)) }
 {
     if ret {
         let v = get(s, Register::M);
-        land(s, Register::PC, v, v)
+        Ok(land(s, Register::PC, v, v))
     } else {
         call(s, address)
     }

@@ -11,7 +11,6 @@ mod steps;
 mod transfers;
 mod words;
 
-use base::{Answer, Refusal};
 use instruction::Register;
 use map::Map;
 use memory::Changes;
@@ -37,13 +36,12 @@ pub struct Machine {
     pub map: Map,
 }
 
-// What a step answers. Continue and Debug are accepted steps.
+// What a step answers that is not refused. Continue and Debug are accepted steps.
 #[derive(Clone, Copy)]
 pub enum StepAnswer {
     Continue,
     Debug,
     Stop,
-    Refused(Refusal),
 }
 
 // A step that is decided and not yet made: its answer, the registers after it, the bytes to be stored.
@@ -62,18 +60,4 @@ pub struct Move {
     pub value: u16,
     pub pc: u16,
     pub changes: Changes,
-}
-
-// A step's answer and the machine after it: as it was where nothing was accepted.
-#[derive(Clone, Copy)]
-pub struct Stepped {
-    pub answer: StepAnswer,
-    pub machine: Machine,
-}
-
-// An entry's verdict and the machine after it: as it was where the verdict is a refusal.
-#[derive(Clone, Copy)]
-pub struct Changed {
-    pub answer: Answer,
-    pub machine: Machine,
 }

@@ -8,10 +8,11 @@ ghost use Rattle.machine.specs.Moves.{regs};
 
 use instruction::{Operand, Register};
 
+#[tactic(auto, unfolding(crate::specs::Registers::get))]
 pub fn get(s: &[u16; 8], r: Register) -> u16
     ensures { result ≡ get (regs s.now) r }
 {
-    let i = instruction::register_code(r) as usize;
+    let i = u16::from(r) as usize;
     s[i]
 }
 
@@ -19,12 +20,8 @@ pub fn get(s: &[u16; 8], r: Register) -> u16
 pub fn get_after(s: [u16; 8], d: Register, v: u16, r: Register) -> u16
     ensures { result ≡ get (put (regs s) d v) r }
 {
-    let i = instruction::register_code(r) as usize;
-    if instruction::register_code(d) as usize == i {
-        v
-    } else {
-        s[i]
-    }
+    let i = u16::from(r) as usize;
+    if u16::from(d) as usize == i { v } else { s[i] }
 }
 
 pub fn operand(s: &[u16; 8], o: Operand) -> u16

@@ -1,27 +1,24 @@
-// The ways in which a plan ends: refused, going on to the next instruction, or landing where it jumped.
+// The ways in which a plan ends: going on to the next instruction, or landing where it jumped.
 ghost use Rattle.std.specs.Prelude.{◌≡◌};
 ghost use Rattle.base.specs.Choice.{cond};
-ghost use Rattle.base.specs.Numbers.{number_of};
-ghost use Rattle.base.specs.Told.{is};
-ghost use Rattle.arithmetic.specs.Totals.{total};
+ghost use Rattle.base.specs.Told.{is, told};
 ghost use Rattle.instruction.specs.declared.Register.TheVariants.{PC};
 ghost use Rattle.memory.specs.declared.Changes.TheVariants.{Nothing};
-ghost use Rattle.machine.specs.Answers.{answered, Continue, Debug};
 ghost use Rattle.machine.specs.Acts.{next, jump, result_of};
 ghost use Rattle.machine.specs.Moves.{Moves};
-ghost use Rattle.machine.specs.Plan.{plans, refusal, finished};
+ghost use Rattle.machine.specs.Plan.{plans, finished};
 ghost use Rattle.machine.specs.Registers.{put};
+ghost use Rattle.machine.specs.declared.StepAnswer.TheVariants.{Continue, Debug};
 
 use crate::operands::{get, get_after};
 use crate::{Move, StepAnswer};
-use arithmetic::Total;
-use base::{Reached, Refusal};
+use base::Refusal;
 use instruction::Register;
 use memory::Changes;
 
 // Nothing changes: PC gets what it has.
 pub fn unmoved(s: &[u16; 8], answer: StepAnswer) -> Move
-    ensures { Moves s.now result (λ g. plans (answered answer) g Nothing) }
+    ensures { Moves s.now (Ok result) (λ g. plans (is answer) g Nothing) }
 {
     let pc = get(s, Register::PC);
     Move {
@@ -33,14 +30,8 @@ pub fn unmoved(s: &[u16; 8], answer: StepAnswer) -> Move
     }
 }
 
-pub fn refused(s: &[u16; 8], r: Refusal) -> Move
-    ensures { Moves s.now result (λ g. refusal g (number_of r)) }
-{
-    unmoved(s, StepAnswer::Refused(r))
-}
-
 fn answer(pause: bool) -> StepAnswer
-    ensures { answered result ≡ is (cond pause Debug Continue) }
+    ensures { result ≡ cond pause Debug Continue }
 {
     if pause {
         StepAnswer::Debug
@@ -50,32 +41,34 @@ fn answer(pause: bool) -> StepAnswer
 }
 
 // d gets v, and PC is raised: also where it is d. Where it can't be, the step is refused.
-fn pause_or_next(s: &[u16; 8], pause: bool, d: Register, v: u16, c: Changes) -> Move
+#[tactic(auto, unfolding(crate::specs::Plan::raised, crate::specs::Plan::finished))]
+fn pause_or_next(
+    s: &[u16; 8],
+    pause: bool,
+    d: Register,
+    v: u16,
+    c: Changes,
+) -> Result<Move, Refusal>
     ensures { Moves s.now result (λ g. finished g (is (next (cond pause Debug Continue) (put g d v) c))) }
 {
-    match base::raised_pc(get_after(*s, d, v, Register::PC)) {
-        Reached::At(pc) => {
-            let a = answer(pause);
-            Move {
-                answer: a,
-                register: d,
-                value: v,
-                pc,
-                changes: c,
-            }
-        }
-        Reached::Past => refused(s, Refusal::PcOverflow),
-    }
+    let pc = base::raised_pc(get_after(*s, d, v, Register::PC)).ok_or(Refusal::PcOverflow)?;
+    Ok(Move {
+        answer: answer(pause),
+        register: d,
+        value: v,
+        pc,
+        changes: c,
+    })
 }
 
-pub fn go_on(s: &[u16; 8], d: Register, v: u16, c: Changes) -> Move
+pub fn go_on(s: &[u16; 8], d: Register, v: u16, c: Changes) -> Result<Move, Refusal>
     ensures { Moves s.now result (λ g. finished g (is (next Continue (put g d v) c))) }
 {
     pause_or_next(s, false, d, v, c)
 }
 
 // Nothing but PC.
-pub fn stay(s: &[u16; 8], pause: bool, c: Changes) -> Move
+pub fn stay(s: &[u16; 8], pause: bool, c: Changes) -> Result<Move, Refusal>
     ensures { Moves s.now result (λ g. finished g (is (next (cond pause Debug Continue) g c))) }
 {
     pause_or_next(s, pause, Register::PC, get(s, Register::PC), c)
@@ -83,7 +76,7 @@ pub fn stay(s: &[u16; 8], pause: bool, c: Changes) -> Move
 
 // d gets v, and PC its own number, which is not raised.
 pub fn land(s: &[u16; 8], d: Register, v: u16, pc: u16) -> Move
-    ensures { Moves s.now result (λ g. finished g (is (jump (put (put g d v) PC pc)))) }
+    ensures { Moves s.now (Ok result) (λ g. finished g (is (jump (put (put g d v) PC pc)))) }
 {
     Move {
         answer: StepAnswer::Continue,
@@ -95,11 +88,15 @@ pub fn land(s: &[u16; 8], d: Register, v: u16, pc: u16) -> Move
 }
 
 // What an operator came to goes into d.
-pub fn settle(s: &[u16; 8], d: Register, x: Total, c: Changes) -> Move
-    ensures { Moves s.now result (λ g. finished g (result_of g d c (total x))) }
+#[tactic(auto, unfolding(crate::specs::Acts::result_of, crate::specs::Plan::finished))]
+pub fn settle(
+    s: &[u16; 8],
+    d: Register,
+    x: Result<u16, Refusal>,
+    c: Changes,
+) -> Result<Move, Refusal>
+    ensures { Moves s.now result (λ g. finished g (result_of g d c (told x))) }
 {
-    match x {
-        Total::Is(v) => go_on(s, d, v, c),
-        Total::Refused(r) => refused(s, r),
-    }
+    let v = x?;
+    go_on(s, d, v, c)
 }

@@ -1,10 +1,10 @@
 // A machine's state: whether it is valid, a new one, and setting a register.
 ghost use Rattle.std.specs.Prelude.{◌≡◌};
 ghost use Rattle.base.specs.Numbers.{answer_number};
-ghost use Rattle.machine.specs.States.{valid, with, fresh, set_number, set_machine};
+ghost use Rattle.machine.specs.States.{valid, fresh, set_number, set_machine};
 
-use crate::{Changed, Machine, Mode, Registers};
-use base::{Answer, Refusal};
+use crate::{Machine, Mode, Registers};
+use base::Refusal;
 
 // Any registers are valid, and either mode: the tables decide.
 pub fn valid(m: Machine, dev: &[u8]) -> bool
@@ -13,52 +13,29 @@ pub fn valid(m: Machine, dev: &[u8]) -> bool
     map::valid(m.map, dev)
 }
 
-pub fn with_registers(m: Machine, s: Registers) -> Machine
-    ensures { result ≡ with m s }
-{
-    let mode = m.mode;
-    let map = m.map;
-    Machine {
-        registers: s,
-        mode,
-        map,
-    }
-}
-
 // A new state: registers zero, tables empty.
 pub fn new(debug: bool) -> Machine
     ensures { result ≡ fresh debug }
 {
-    let map = map::empty();
     Machine {
         registers: Registers { value: [0; 8] },
         mode: Mode { debug },
-        map,
+        map: map::empty(),
     }
 }
 
-// Sets a register by its number: 1, then 18 for a number over 7.
-pub fn set_register(m: Machine, dev: &[u8], number: usize, value: u16) -> Changed
-    ensures answer_value { answer_number result.answer ≡ set_number m dev.now number }
-    ensures machine_value { result.machine ≡ set_machine m dev.now number value }
+// Sets a register by its number: 1, then 18 for a number over 7. A refusal leaves the machine as it was.
+#[tactic(auto, unfolding(crate::specs::States::set_number, crate::specs::States::set_order, crate::specs::States::set_machine, crate::specs::States::with_register))]
+pub fn set_register(m: &mut Machine, dev: &[u8], number: usize, value: u16) -> Result<(), Refusal>
+    ensures answer_value { answer_number result ≡ set_number m.old dev.now number }
+    ensures machine_value { m.new ≡ set_machine m.old dev.now number value }
 {
-    if !valid(m, dev) {
-        return Changed {
-            answer: Answer::Refused(Refusal::BadState),
-            machine: m,
-        };
+    if !valid(*m, dev) {
+        return Err(Refusal::BadState);
     }
     if 7 < number {
-        return Changed {
-            answer: Answer::Refused(Refusal::BadRegister),
-            machine: m,
-        };
+        return Err(Refusal::BadRegister);
     }
-    let mut s = m.registers;
-    s.value[number] = value;
-    let t = with_registers(m, s);
-    Changed {
-        answer: Answer::Accepted,
-        machine: t,
-    }
+    m.registers.value[number] = value;
+    Ok(())
 }

@@ -1,7 +1,7 @@
 // The step: planned, then committed.
 ghost use Rattle.std.specs.Prelude.{◌≡◌};
+ghost use Rattle.base.specs.Told.{is, told};
 ghost use Rattle.memory.specs.Bytes.{lent};
-ghost use Rattle.machine.specs.Answers.{answered};
 ghost use Rattle.instruction.specs.declared.Register.TheVariants.{PC};
 ghost use Rattle.machine.specs.Moves.{Moves, regs};
 ghost use Rattle.machine.specs.Plan.{planned, plan};
@@ -10,84 +10,76 @@ ghost use Rattle.machine.specs.States.{machine};
 ghost use Rattle.machine.specs.Step.{after, committed, step};
 
 use crate::operands::{flag, get};
-use crate::plans::{refused, unmoved};
-use crate::states::{valid, with_registers};
+use crate::plans::unmoved;
+use crate::states::valid;
 use crate::words::act_on_word;
-use crate::{Machine, Mode, Move, Plan, Registers, StepAnswer, Stepped};
+use crate::{Machine, Mode, Move, Plan, Registers, StepAnswer};
 use base::Refusal;
 use instruction::Register;
 use map::Map;
-use memory::WordRead;
 
 // What a step comes to, of a machine in its parts. Nothing is stored, so that the bytes to be replaced can still be read.
-pub fn move_of(s: &[u16; 8], mode: Mode, map: Map, mem: &[u8], dev: &[u8]) -> Move
+#[tactic(auto, unfolding(crate::specs::Plan::plan, crate::specs::Plan::fetched))]
+pub fn move_of(s: &[u16; 8], mode: Mode, map: Map, mem: &[u8], dev: &[u8]) -> Result<Move, Refusal>
     ensures { Moves s.now result (λ g. plan (machine g mode map) (lent mem.now dev.now)) }
 {
     if flag(s, 0) {
-        return unmoved(s, StepAnswer::Stop);
+        return Ok(unmoved(s, StepAnswer::Stop));
     }
-    match memory::fetch_word(map, mem, dev, get(s, Register::PC)) {
-        WordRead::Word(w) => act_on_word(s, mode, map, mem, dev, w),
-        WordRead::NoWord => refused(s, Refusal::FetchUnmapped),
-        WordRead::Refused(r) => refused(s, r),
-    }
+    let word = memory::fetch_word(map, mem, dev, get(s, Register::PC))?;
+    act_on_word(s, mode, map, mem, dev, word.ok_or(Refusal::FetchUnmapped)?)
 }
 
 // Stores what a step moves: one register's value, and then that of PC, the sixth.
+#[tactic(auto, unfolding(crate::specs::Registers::put))]
 pub fn store(s: &mut [u16; 8], r: Register, value: u16, pc: u16)
     ensures { regs s.new ≡ put (put (regs s.old) r value) PC pc }
 {
-    let i = instruction::register_code(r) as usize;
-    s[i] = value;
+    s[u16::from(r) as usize] = value;
     s[5] = pc;
 }
 
 // The same as `move_of`, with the registers after it.
-pub fn plan_of(s: Registers, mode: Mode, map: Map, mem: &[u8], dev: &[u8]) -> Plan
-    ensures { planned result ≡ plan (machine s mode map) (lent mem.now dev.now) }
+pub fn plan_of(s: Registers, mode: Mode, map: Map, mem: &[u8], dev: &[u8]) -> Result<Plan, Refusal>
+    ensures { planned s result ≡ plan (machine s mode map) (lent mem.now dev.now) }
 {
     let mut g = s.value;
-    let m = move_of(&g, mode, map, mem, dev);
-    let r = m.register;
-    store(&mut g, r, m.value, m.pc);
-    let answer = m.answer;
-    let changes = m.changes;
-    Plan {
-        answer,
+    let m = move_of(&g, mode, map, mem, dev)?;
+    store(&mut g, m.register, m.value, m.pc);
+    Ok(Plan {
+        answer: m.answer,
         registers: Registers { value: g },
-        changes,
-    }
+        changes: m.changes,
+    })
 }
 
 // The same of a whole machine.
-pub fn plan_step(m: Machine, mem: &[u8], dev: &[u8]) -> Plan
-    ensures { planned result ≡ plan m (lent mem.now dev.now) }
+pub fn plan_step(m: Machine, mem: &[u8], dev: &[u8]) -> Result<Plan, Refusal>
+    ensures { planned m.registers result ≡ plan m (lent mem.now dev.now) }
 {
     plan_of(m.registers, m.mode, m.map, mem, dev)
 }
 
-// Makes what was planned for this machine.
-pub fn commit(m: Machine, p: Plan, mem: &mut [u8], dev: &mut [u8]) -> Stepped
-    ensures { after (answered result.answer) result.machine (lent mem.new dev.new) ≡ committed m (lent mem.old dev.old) (planned p) }
+// Makes what was planned for this machine, which has not been refused.
+#[tactic(auto, unfolding(crate::specs::Step::committed))]
+pub fn commit(m: &mut Machine, p: Plan, mem: &mut [u8], dev: &mut [u8]) -> StepAnswer
+    ensures { after (is result) m.new (lent mem.new dev.new) ≡ committed m.old (lent mem.old dev.old) (planned m.old.registers (Ok p)) }
 {
-    let c = p.changes;
-    memory::make(c, mem, dev);
-    let s = p.registers;
-    let t = with_registers(m, s);
-    let answer = p.answer;
-    Stepped { answer, machine: t }
+    memory::make(p.changes, mem, dev);
+    m.registers = p.registers;
+    p.answer
 }
 
 // One step: 1, Stop, 2 or 3 at fetch, 4 to 6, then 3, 7, 8, then 9. Anything but an accepted step changes nothing.
-pub fn step(m: Machine, mem: &mut [u8], dev: &mut [u8]) -> Stepped
-    ensures { after (answered result.answer) result.machine (lent mem.new dev.new) ≡ step m (lent mem.old dev.old) }
+#[tactic(auto, unfolding(crate::specs::Step::step))]
+pub fn step(m: &mut Machine, mem: &mut [u8], dev: &mut [u8]) -> Result<StepAnswer, Refusal>
+    ensures { after (told result) m.new (lent mem.new dev.new) ≡ step m.old (lent mem.old dev.old) }
 {
-    if !valid(m, dev) {
-        return Stepped {
-            answer: StepAnswer::Refused(Refusal::BadState),
-            machine: m,
-        };
+    if !valid(*m, dev) {
+        return Err(Refusal::BadState);
     }
-    let p = plan_step(m, mem, dev);
-    commit(m, p, mem, dev)
+    match plan_step(*m, mem, dev) {
+        Ok(p) => Ok(commit(m, p, mem, dev)),
+        Err(r) => Err(r),
+    }
 }

@@ -1,53 +1,61 @@
 // Loads, stores and Cpy: what goes between registers and memory. Memory is read here, and nothing is stored yet.
 ghost use Rattle.std.specs.Prelude.{◌≡◌};
+ghost use Rattle.base.specs.Told.{told};
 ghost use Rattle.memory.specs.Bytes.{lent};
-ghost use Rattle.memory.specs.Words.{told_word, decided};
+ghost use Rattle.memory.specs.Words.{decided};
 ghost use Rattle.machine.specs.Acts as act;
 ghost use Rattle.machine.specs.Moves.{Moves};
 ghost use Rattle.machine.specs.Plan.{finished};
 
 use crate::Move;
 use crate::operands::{fail, get};
-use crate::plans::{go_on, refused, stay};
-use base::{Reached, Refusal};
+use crate::plans::{go_on, stay};
+use base::Refusal;
 use instruction::Register;
-use map::Map;
-use memory::{Changes, Decision, Read, Stored, WordRead};
+use map::{Map, Place};
+use memory::{Changes, Decision, Stored};
 
 // A word that was read goes into r; where there was none, r stays.
-fn load_word(s: &[u16; 8], r: Register, x: WordRead) -> Move
-    ensures { Moves s.now result (λ g. finished g (act.word_loaded g r (told_word x))) }
+#[tactic(auto, unfolding(crate::specs::Acts::word_loaded, crate::specs::Plan::finished))]
+fn load_word(s: &[u16; 8], r: Register, x: Result<Option<u16>, Refusal>) -> Result<Move, Refusal>
+    ensures { Moves s.now result (λ g. finished g (act.word_loaded g r (told x))) }
 {
-    match x {
-        WordRead::Word(w) => go_on(s, r, w, Changes::Nothing),
-        WordRead::NoWord => stay(s, false, Changes::Nothing),
-        WordRead::Refused(e) => refused(s, e),
+    match x? {
+        Some(w) => go_on(s, r, w, Changes::Nothing),
+        None => stay(s, false, Changes::Nothing),
     }
 }
 
-fn load_byte(s: &[u16; 8], r: Register, x: Read) -> Move
+#[tactic(auto, unfolding(crate::specs::Acts::byte_loaded))]
+fn load_byte(s: &[u16; 8], r: Register, x: Option<(u8, Place)>) -> Result<Move, Refusal>
     ensures { Moves s.now result (λ g. finished g (act.byte_loaded g r x)) }
 {
     match x {
-        Read::Byte(v, _) => go_on(s, r, v as u16, Changes::Nothing),
-        Read::Unmapped => stay(s, false, Changes::Nothing),
+        Some((v, _)) => go_on(s, r, v as u16, Changes::Nothing),
+        None => stay(s, false, Changes::Nothing),
     }
 }
 
 // A store that memory has decided. A failed one sets the flags, and keeps the byte that was taken.
-fn end_store(s: &[u16; 8], d: Decision) -> Move
+#[tactic(auto, unfolding(crate::specs::Acts::storing, crate::specs::Acts::ended, crate::specs::Acts::fault, crate::specs::Plan::finished))]
+fn end_store(s: &[u16; 8], d: Decision) -> Result<Move, Refusal>
     ensures { Moves s.now result (λ g. finished g (act.storing g (decided d))) }
 {
-    let c = d.changes;
-    let r = d.outcome;
-    match r {
-        Stored::Done => stay(s, false, c),
-        Stored::Failed => go_on(s, Register::FLAGS, fail(s), c),
-        Stored::Refused(e) => refused(s, e),
+    match d.outcome? {
+        Stored::Done => stay(s, false, d.changes),
+        Stored::Failed => go_on(s, Register::FLAGS, fail(s), d.changes),
     }
 }
 
-fn word_at(m: Map, mem: &[u8], dev: &[u8], s: &[u16; 8], r: Register, store: bool, a: u16) -> Move
+fn word_at(
+    m: Map,
+    mem: &[u8],
+    dev: &[u8],
+    s: &[u16; 8],
+    r: Register,
+    store: bool,
+    a: u16,
+) -> Result<Move, Refusal>
     ensures { Moves s.now result (λ g. finished g (act.word_at m (lent mem.now dev.now) g r store a)) }
 {
     if store {
@@ -57,7 +65,15 @@ fn word_at(m: Map, mem: &[u8], dev: &[u8], s: &[u16; 8], r: Register, store: boo
     }
 }
 
-fn byte_at(m: Map, mem: &[u8], dev: &[u8], s: &[u16; 8], r: Register, store: bool, a: u16) -> Move
+fn byte_at(
+    m: Map,
+    mem: &[u8],
+    dev: &[u8],
+    s: &[u16; 8],
+    r: Register,
+    store: bool,
+    a: u16,
+) -> Result<Move, Refusal>
     ensures { Moves s.now result (λ g. finished g (act.byte_at m (lent mem.now dev.now) g r store a)) }
 {
     if store {
@@ -67,6 +83,7 @@ fn byte_at(m: Map, mem: &[u8], dev: &[u8], s: &[u16; 8], r: Register, store: boo
     }
 }
 
+#[tactic(auto, unfolding(crate::specs::Acts::addressed, crate::specs::Plan::finished))]
 pub fn ldr_str(
     m: Map,
     mem: &[u8],
@@ -76,15 +93,14 @@ pub fn ldr_str(
     addr: Register,
     store: bool,
     shift: u8,
-) -> Move
+) -> Result<Move, Refusal>
     ensures { Moves s.now result (λ g. finished g (act.addressed g addr shift (act.word_at m (lent mem.now dev.now) g r store))) }
 {
-    match base::base_plus_shift(get(s, addr), shift) {
-        Reached::At(a) => word_at(m, mem, dev, s, r, store, a),
-        Reached::Past => refused(s, Refusal::AddressOverflow),
-    }
+    let a = base::base_plus_shift(get(s, addr), shift).ok_or(Refusal::AddressOverflow)?;
+    word_at(m, mem, dev, s, r, store, a)
 }
 
+#[tactic(auto, unfolding(crate::specs::Acts::addressed, crate::specs::Plan::finished))]
 pub fn ldb_stb(
     m: Map,
     mem: &[u8],
@@ -94,20 +110,26 @@ pub fn ldb_stb(
     addr: Register,
     store: bool,
     shift: u8,
-) -> Move
+) -> Result<Move, Refusal>
     ensures { Moves s.now result (λ g. finished g (act.addressed g addr shift (act.byte_at m (lent mem.now dev.now) g r store))) }
 {
-    match base::base_plus_shift(get(s, addr), shift) {
-        Reached::At(a) => byte_at(m, mem, dev, s, r, store, a),
-        Reached::Past => refused(s, Refusal::AddressOverflow),
-    }
+    let a = base::base_plus_shift(get(s, addr), shift).ok_or(Refusal::AddressOverflow)?;
+    byte_at(m, mem, dev, s, r, store, a)
 }
 
-pub fn cpy(m: Map, mem: &[u8], dev: &[u8], s: &[u16; 8], src: Register, dst: Register) -> Move
+#[tactic(auto, unfolding(crate::specs::Acts::cpy, crate::specs::Acts::copied, crate::specs::Acts::fault))]
+pub fn cpy(
+    m: Map,
+    mem: &[u8],
+    dev: &[u8],
+    s: &[u16; 8],
+    src: Register,
+    dst: Register,
+) -> Result<Move, Refusal>
     ensures { Moves s.now result (λ g. finished g (act.cpy m (lent mem.now dev.now) g src dst)) }
 {
     match memory::read_byte(m, mem, dev, get(s, src)) {
-        Read::Byte(v, _) => end_store(s, memory::decide_byte(m, mem, dev, get(s, dst), v)),
-        Read::Unmapped => go_on(s, Register::FLAGS, fail(s), Changes::Nothing),
+        Some((v, _)) => end_store(s, memory::decide_byte(m, mem, dev, get(s, dst), v)),
+        None => go_on(s, Register::FLAGS, fail(s), Changes::Nothing),
     }
 }

@@ -13,7 +13,6 @@ ghost use Rattle.machine.specs.States.{machine};
 
 use crate::actions::{arith, arith_reg_reg, cmp, mov, mov_shift, noop};
 use crate::flow::{call_ret, cond_jmp, jmp};
-use crate::plans::refused;
 use crate::transfers::{cpy, ldb_stb, ldr_str};
 use crate::{Mode, Move};
 use base::Refusal;
@@ -25,19 +24,19 @@ use map::Map;
 
 // Three rows of the table in which another field decides too. They use registers alone, so that their contracts hold of any mode,
 // map and bytes.
-fn act_on_cond_jmp(s: &[u16; 8], w: u16) -> Move
+fn act_on_cond_jmp(s: &[u16; 8], w: u16) -> Result<Move, Refusal>
     requires { field_of w 0 4 ≡ 5 }
     ensures { (mode : Mode) (map : Map) (b : Lent) → Moves s.now result (λ g. decoded (machine g mode map) b (decode w)) }
 {
     let o = operand_at(w, 4, 11);
     if jumps_always(o) {
-        jmp(s, o)
+        Ok(jmp(s, o))
     } else {
         cond_jmp(s, o)
     }
 }
 
-fn act_on_cmp(s: &[u16; 8], w: u16) -> Move
+fn act_on_cmp(s: &[u16; 8], w: u16) -> Result<Move, Refusal>
     requires { field_of w 0 4 ≡ 7 }
     ensures { (mode : Mode) (map : Map) (b : Lent) → Moves s.now result (λ g. decoded (machine g mode map) b (decode w)) }
 {
@@ -45,11 +44,11 @@ fn act_on_cmp(s: &[u16; 8], w: u16) -> Move
     if k < 6 {
         cmp(s, register_at(w, 4), operand_at(w, 10, 5), compare_of(k))
     } else {
-        refused(s, Refusal::BadCompare)
+        Err(Refusal::BadCompare)
     }
 }
 
-fn act_on_arith_reg_reg(s: &[u16; 8], w: u16) -> Move
+fn act_on_arith_reg_reg(s: &[u16; 8], w: u16) -> Result<Move, Refusal>
     requires { field_of w 0 4 ≡ 10 }
     ensures { (mode : Mode) (map : Map) (b : Lent) → Moves s.now result (λ g. decoded (machine g mode map) b (decode w)) }
 {
@@ -63,12 +62,19 @@ fn act_on_arith_reg_reg(s: &[u16; 8], w: u16) -> Move
             arithmetic_of(k),
         )
     } else {
-        refused(s, Refusal::BadArith)
+        Err(Refusal::BadArith)
     }
 }
 
 // Each row of the table, 0 to 11, with the fields that it names.
-pub fn act_on_word(s: &[u16; 8], mode: Mode, map: Map, mem: &[u8], dev: &[u8], w: u16) -> Move
+pub fn act_on_word(
+    s: &[u16; 8],
+    mode: Mode,
+    map: Map,
+    mem: &[u8],
+    dev: &[u8],
+    w: u16,
+) -> Result<Move, Refusal>
     ensures { Moves s.now result (λ g. decoded (machine g mode map) (lent mem.now dev.now) (decode w)) }
 {
     let d = register_at(w, 4);
@@ -85,7 +91,7 @@ pub fn act_on_word(s: &[u16; 8], mode: Mode, map: Map, mem: &[u8], dev: &[u8], w
             ldr_str(map, mem, dev, s, d, a, bit_at(w, 10), byte_at(w, 11, 5))
         }
         5 => act_on_cond_jmp(s, w),
-        6 => jmp(s, operand_at(w, 4, 11)),
+        6 => Ok(jmp(s, operand_at(w, 4, 11))),
         7 => act_on_cmp(s, w),
         8 => {
             let a = register_at(w, 7);
@@ -94,6 +100,6 @@ pub fn act_on_word(s: &[u16; 8], mode: Mode, map: Map, mem: &[u8], dev: &[u8], w
         9 => cpy(map, mem, dev, s, d, register_at(w, 7)),
         10 => act_on_arith_reg_reg(s, w),
         11 => call_ret(s, bit_at(w, 4), field(w, 5, 11)),
-        _ => refused(s, Refusal::BadOpcode),
+        _ => Err(Refusal::BadOpcode),
     }
 }

@@ -4,10 +4,10 @@ use Rattle.memory.specs.Words.{Decided}
 use Rattle.machine.specs.Acts.{at_old_sp}
 use Rattle.machine.proofs.actions.at_old_sp.Goals as goal
 
-pub returns-in-Is : goal.returns-in-Is
+pub returns-in-Ok : goal.returns-in-Ok
 unfolding at_old_sp
-returns-in-Is c = ap (λ (d : Decided). d.changes) c.decide_byte-d.ensures ∙ rw (c.low.ensures, c.get.ensures, c.in-Is.is)
+returns-in-Ok c = ap (λ (d : Decided). d.changes) c.decide_byte.ensures ∙ rw (c.low.ensures, c.get.ensures, c.in-Ok.is)
 
-pub returns-in-Refused : goal.returns-in-Refused
+pub returns-in-Err : goal.returns-in-Err
 unfolding at_old_sp
-returns-in-Refused c = rw c.in-Refused.is
+returns-in-Err c = rw c.in-Err.is

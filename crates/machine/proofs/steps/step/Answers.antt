@@ -1,18 +1,9 @@
--- 1 comes first; then what was planned is committed. Assumes nothing.
+-- A plan that is refused leaves all. Assumes nothing.
 use mathlib.Core.Path.{sym, ◌∙◌}
-use Rattle.machine.specs.Step.{step}
+use Rattle.base.specs.Numbers.{number_of}
+use Rattle.memory.specs.Bytes.{lent}
+use Rattle.machine.proofs.Laws.{refused_step}
 use Rattle.machine.proofs.steps.step.Goals as goal
 
-pub returns-then-not-valid : goal.returns-then-not-valid
-unfolding step
-returns-then-not-valid c = rw (sym c.valid.ensures ∙ c.if-not-valid.true)
-
-pub shape_of-mem : goal.shape_of-mem
-shape_of-mem c = c.commit.auto.mem
-
-pub shape_of-dev : goal.shape_of-dev
-shape_of-dev c = c.commit.auto.dev
-
-pub returns : goal.returns
-unfolding step
-returns c = c.commit.ensures ∙ rw (c.plan_step-p.ensures, sym c.valid.ensures ∙ c.if-not-valid.false)
+pub returns-in-Err : goal.returns-in-Err
+returns-in-Err c = refused_step c.args.m.now (lent c.args.mem.now c.args.dev.now) (number_of c.in-Err.r) (sym c.valid.ensures ∙ c.if-not-valid.false) c.in-Err.ensures

@@ -16,4 +16,4 @@ returns-then-k-lt7 c = let f = c.field-k.ensures in
 pub returns-else-k-lt7 : goal.returns-else-k-lt7
 unfolding decoded
 returns-else-k-lt7 c = let h : 7 ≤ field_of c.args.w 7 3 = rw (← c.field-k.ensures) c.if-k-lt7.false in
-    λ mode map b. c.refused.ensures ∙ rw (decode-bad-arith c.args.w c.requires h)
+    λ mode map b. rw (decode-bad-arith c.args.w c.requires h)

@@ -16,4 +16,4 @@ returns-then-k-lt6 c = let f = c.field-k.ensures in
 pub returns-else-k-lt6 : goal.returns-else-k-lt6
 unfolding decoded
 returns-else-k-lt6 c = let h : 6 ≤ field_of c.args.w 7 3 = rw (← c.field-k.ensures) c.if-k-lt6.false in
-    λ mode map b. c.refused.ensures ∙ rw (decode-bad-compare c.args.w c.requires h)
+    λ mode map b. rw (decode-bad-compare c.args.w c.requires h)

@@ -76,4 +76,4 @@ pub returns-in_default : goal.returns-in_default
 unfolding decoded
 returns-in_default c = let w = c.args.w in
     let h : 12 ≤ field_of w 0 4 = rw (← c.field.ensures) (past 12 c.in_default.in_default-own.rest) in
-    c.refused.ensures ∙ rw (decode-bad-opcode w h)
+    rw (decode-bad-opcode w h)
