@@ -1,14 +1,16 @@
 -- Where a number has no more digits than are allowed, allowing more changes nothing; and its digits say the number. Assumes nothing.
-use mathlib.Core.Path.{◌≡◌, refl, ◌∙◌}
+use mathlib.Core.Path.{◌≡◌, refl, sym, ap, ◌∙◌}
 use mathlib.Core.Bool.{Bool, true, false}
 use mathlib.Core.List.{List, [], ◌∷◌, ◌++◌}
 use Prim.Native.Nat.{ℕ, zero, suc, ◌+◌, ◌-◌, ◌*◌, ◌/◌, ◌%◌, ◌^◌, ◌≤◌, ◌<◌, zero-le}
-use native.Mathlib.Nat.{div-lt_iff_lt-mul, pow-suc}
+use native.Mathlib.Nat.{lt_of_lt_of_le, le-suc, pow-le-pow_right, div-lt_iff_lt-mul, pow-suc, zero-add}
 use native.Mathlib.Omega.{arith}
 use borrow.Author.Tests.{lt-ltb, le-ltb}
 use lib.Dec.{ltb}
 use lib.ListN.{length, length-append}
 use Rattle.base.specs.Choice.{cond}
+use Rattle.printer.specs.Line.{added}
+use Rattle.printer.proofs.LineLaws.{whole}
 use Rattle.printer.specs.Text.{digit, digits, decimal_of}
 
 pub digits-one : (k n : ℕ) → n < 10 → digits (suc k) n ≡ digit n ∷ []
@@ -34,6 +36,16 @@ tens k n h = rw (le-ltb n 10 h)
 pub digits_more : (k n : ℕ) → 10 ≤ n → n < 10 ^ suc (suc k) → digits (suc (suc k)) n ≡ digits (suc (suc k)) (n / 10) ++ (digit (n % 10) ∷ [])
 digits_more k n g h = tens (suc k) n g ∙ rw (steady k (n / 10) (fewer k n h))
 
+-- as many digits as are allowed or more
+steady-by : (j k n : ℕ) → n < 10 ^ suc k → digits (suc k) n ≡ digits (j + suc k) n
+steady-by zero k n h = ap (λ (m : ℕ). digits m n) (sym (zero-add (suc k)))
+steady-by (suc j) k n h = steady k n h ∙ steady-by j (suc k) n (lt_of_lt_of_le h (pow-le-pow_right (omega arith) (le-suc (suc k)))) ∙ ap (λ (m : ℕ). digits m n) (omega arith)
+
+-- a number of sixteen bits, at twenty digits
+pub decimal_twenty : (n : ℕ) → n < 65536 → decimal_of n ≡ digits 20 n
+unfolding decimal_of
+decimal_twenty n h = steady-by 15 4 n (omega arith)
+
 pub decimal-more : (n : ℕ) → 10 ≤ n → n < 65536 → decimal_of n ≡ decimal_of (n / 10) ++ (digit (n % 10) ∷ [])
 unfolding decimal_of
 decimal-more n g h = digits_more 3 n g (omega arith)
@@ -46,6 +58,10 @@ digits-length (suc k) n = go (ltb n 10) (digits-length k (n / 10))
     go : (t : Bool) → length (digits k (n / 10)) ≤ k → length (cond t (digit n ∷ []) (digits k (n / 10) ++ (digit (n % 10) ∷ []))) ≤ suc k
     go true h = omega arith
     go false h = rw length-append (omega arith)
+
+-- a line has room for twenty
+pub digits_whole : (n : ℕ) → added [] (digits 20 n) ≡ digits 20 n
+digits_whole n = whole (digits 20 n) (omega (arith, digits-length 20 n))
 
 -- ---- the number that digits say
 

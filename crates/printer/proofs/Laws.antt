@@ -2,7 +2,7 @@
 -- the sum of its parts' bounds, with five digits for an amount as for any number: 26, and 25 where the amount fits. Assumes nothing.
 use mathlib.Core.Path.{◌≡◌, refl, sym, ap, ◌∙◌}
 use mathlib.Core.Bool.{Bool, true, false}
-use mathlib.Core.List.{List, ◌∷◌, ◌++◌}
+use mathlib.Core.List.{List, [], ◌∷◌, ◌++◌}
 use Prim.Native.Nat.{ℕ, ◌+◌, ◌^◌, ◌≤◌, ◌<◌}
 use native.Mathlib.Omega.{arith}
 use borrow.Author.Tests.{le-leb, lt-leb, ltb-true}
@@ -32,6 +32,8 @@ use Rattle.instruction.specs.declared.Instruction.{Instruction}
 use Rattle.instruction.specs.declared.Instruction.TheVariants.{Noop, Mov, MovShift, Arith, ArithRegReg, LdrStr, LdbStb, Cpy, Jmp, CondJmp, Cmp, CallRet}
 use Rattle.printer.specs.Text.{bytes, decimal_of, immediate_of, register_name, arith_name, arithmetic_name, compare_name, shift_name, word_name, byte_name, operand_of, one, pair, three, bracketed, shifted, address_of, addressed, call_text, turned, text_in, text}
 use Rattle.printer.specs.Print.{placed, print_next_in, print_buffer_in, print_next, print_buffer, word_next, word_buffer}
+use Rattle.printer.specs.Line.{added}
+use Rattle.printer.proofs.LineLaws.{whole}
 use Rattle.printer.proofs.DecimalLaws.{digits-length, decimal-one}
 
 module _ (e : Edition) (i : Instruction) (at : ℕ) where
@@ -205,6 +207,10 @@ text-bound n h e (CallRet ret a) s = omega (arith, call_length ret a)
 
 pub text-length : (e : Edition) (i : Instruction) → length (text_in e i) ≤ 26
 text-length e i = text-bound 26 (omega arith) e i (λ r amount left imm q. omega (arith, turned-length e r amount imm))
+
+-- a line has room for it
+pub text_whole : (e : Edition) (i : Instruction) → added [] (text_in e i) ≡ text_in e i
+text_whole e i = whole (text_in e i) (omega (arith, text-length e i))
 
 -- an amount that fits has one digit
 digit-length : (n : ℕ) → n < 10 → length (immediate_of n) ≡ 2

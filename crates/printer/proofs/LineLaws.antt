@@ -1,56 +1,43 @@
--- Pieces that are added one after the other are their sum added, and a line with room for it holds what was added. Assumes nothing.
-use mathlib.Core.Path.{◌≡◌, refl}
-use mathlib.Core.List.{List, [], ◌∷◌, ◌++◌, append-nil}
-use Prim.Native.Nat.{ℕ, ◌+◌, ◌≤◌, ◌<◌}
-use native.Mathlib.Numerals.{add-one}
+-- Pieces that are added one after the other are their sum added, and what there is room for is added whole. Assumes nothing.
+use mathlib.Core.Path.{◌≡◌, refl, sym, ap, ◌∙◌}
+use mathlib.Core.List.{List, [], ◌∷◌, ◌++◌, append_assoc}
+use Prim.Native.Nat.{ℕ, zero, suc, ◌+◌, ◌≤◌, min}
 use native.Mathlib.Omega.{arith}
-use borrow.Author.Tests.{lt-ltb}
-use lib.ListN.{length, take, drop, get_or, length-append, length-set, drop_of_length-le}
-use lib.Seq.{drop-cons, take-suc-set, append_snoc}
-use Rattle.printer.specs.Line.{blank, pushed, added}
-use Rattle.printer.specs.declared.lines.Line.{Line}
+use lib.ListN.{length, take, length-take}
+use Rattle.std.proofs.Math.Seq.{take-append-add}
+use Rattle.std.specs.Prelude.{Result, Ok, Err, IsOk, OnOk, ⊤}
+use Rattle.std.proofs.lemmas.List.{take_all, take_min}
+use Rattle.base.proofs.Tests.{clash}
+use Rattle.printer.specs.Line.{added}
 
--- x is added to l, then y to that
-pub joined : (x y : List ℕ) (l : Line) → added (added l x) y ≡ added l (x ++ y)
+-- what was left out is left out of the whole
+cut : (n : ℕ) (x y : List ℕ) → take n (take n x ++ y) ≡ take n (x ++ y)
+cut zero x y = refl
+cut (suc n) [] y = refl
+cut (suc n) (b ∷ x) y = ap (λ (l : List ℕ). b ∷ l) (cut n x y)
+
+pub joined : (line x y : List ℕ) → added (added line x) y ≡ added line (x ++ y)
 unfolding added
-joined [] y l = refl
-joined (b ∷ x) y l = joined x y (pushed l b)
+joined line x y = cut 32 (line ++ x) y ∙ ap (take 32) (append_assoc line x y)
 
--- ---- a loop that adds a list byte by byte
-
-pub add-one-more : (l m : Line) (s : List ℕ) (i : ℕ) → i < length s → m ≡ added l (get_or s i 0 ∷ []) → added l (drop i s) ≡ added m (drop (i + 1) s)
+pub whole : (x : List ℕ) → length x ≤ 32 → added [] x ≡ x
 unfolding added
-add-one-more l m s i h e = rw (add-one, drop-cons s i 0, e)
+whole x h = take_all 32 x h
 
-pub add-no-more : (l : Line) (s : List ℕ) (i : ℕ) → length s ≤ i → added l (drop i s) ≡ l
-unfolding added
-add-no-more l s i h = rw drop_of_length-le
+module _ (line x new : List ℕ) (room n : ℕ) (e : room + length line ≡ 32) (m : n ≡ min room (length x)) where
+  fits : length line + length (take n x) ≤ 32
+  fits = omega (arith, length-take {A = ℕ})
 
--- ---- what a line holds
+  all : line ++ take n x ≡ added line x
+  unfolding added
+  all =
+      let f : length line + room ≡ 32 = omega arith in
+      ap (λ (k : ℕ). line ++ take k x) m
+      ∙ ap (λ (l : List ℕ). line ++ l) (take_min room x)
+      ∙ sym (take-append-add line x room)
+      ∙ ap (λ (k : ℕ). take k (line ++ x)) f
 
-pub record Holds (l : Line) (x : List ℕ) : Type 0 where
-  pub size : l.len ≡ length x
-  pub text : take l.len l.bytes ≡ x
-  pub room : length l.bytes ≡ 32
-
-push-holds : (l : Line) (x : List ℕ) (b : ℕ) → Holds l x → length x < 32 → Holds (pushed l b) (x ++ (b ∷ []))
-unfolding pushed
-push-holds l x b r h =
-    let f : l.len < 32 = omega (arith, r.size) in
-    let g : l.len < length l.bytes = omega (arith, r.room) in
-    rw (lt-ltb l.len 32 f) (record {
-      size = rw (length-append, r.size);
-      text = rw (add-one, take-suc-set l.bytes l.len b g, r.text);
-      room = rw (length-set, r.room);
-    })
-
-add_holds : (y : List ℕ) (l : Line) (x : List ℕ) → Holds l x → length x + length y ≤ 32 → Holds (added l y) (x ++ y)
-unfolding added
-add_holds [] l x r h = rw append-nil r
-add_holds (b ∷ y) l x r h =
-    rw (← append_snoc x b y)
-    (add_holds y (pushed l b) (x ++ (b ∷ [])) (push-holds l x b r (omega arith)) (rw length-append (omega arith)))
-
-pub line-holds : (x : List ℕ) → length x ≤ 32 → Holds (added blank x) x
-unfolding blank
-line-holds x h = add_holds x blank [] (record { size = refl; text = refl; room = refl }) (omega arith)
+  -- as many bytes as there is room for were added, since they fit
+  pub added-first : {E : Type 0} (r : Result ⊤ E) → (length line + length (take n x) ≤ 32 → IsOk r) → OnOk r (new ≡ line ++ take n x) → new ≡ added line x
+  added-first (Ok a) h p = p ∙ all
+  added-first (Err q) h p = clash (h fits)

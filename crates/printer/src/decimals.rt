@@ -1,23 +1,38 @@
 // Numbers in decimal.
 ghost use Rattle.std.specs.Prelude.{◌≡◌};
 ghost use Rattle.printer.specs.Line.{added};
-ghost use Rattle.printer.specs.Text.{decimal_of, immediate_of};
+ghost use Rattle.printer.specs.Text.{digits, immediate_of};
 
-use crate::lines::{Line, add, push};
+use crate::lines::Line;
 
-// The digits of the tens, then the last one.
-pub fn decimal(l: Line, n: u16) -> Line
-    ensures { result ≡ added l (decimal_of n) }
-{
-    if n < 10 {
-        return push(l, 48 + n as u8);
+impl Line {
+    // The digits of the tens, then the last one.
+    pub(crate) fn decimal(&mut self, n: usize)
+        ensures { self.new.text.items ≡ added self.old.text.items (digits 20 n) }
+    {
+        if n < 10 {
+            self.add(&[48 + n as u8]);
+            return;
+        }
+        self.decimal(n / 10);
+        self.add(&[48 + (n % 10) as u8]);
     }
-    let tens = decimal(l, n / 10);
-    push(tens, 48 + (n % 10) as u8)
+
+    #[tactic(auto, using(crate::proofs::LineLaws::joined, crate::proofs::DecimalLaws::decimal_twenty), unfolding(crate::specs::Text::immediate_of))]
+    pub(crate) fn immediate(&mut self, n: u16)
+        ensures { self.new.text.items ≡ added self.old.text.items (immediate_of n) }
+    {
+        self.add(b"#");
+        self.decimal(n as usize);
+    }
 }
 
-pub fn immediate(l: Line, n: u16) -> Line
-    ensures { result ≡ added l (immediate_of n) }
+// A number in decimal, in a line of its own.
+#[tactic(auto, using(crate::proofs::DecimalLaws::digits_whole))]
+pub fn decimal(n: usize) -> Line
+    ensures { result.text.items ≡ digits 20 n }
 {
-    decimal(add(l, b"#"), n)
+    let mut l = Line::empty();
+    l.decimal(n);
+    l
 }

@@ -9,4 +9,7 @@ mod operands;
 mod prints;
 mod texts;
 
+pub use decimals::decimal;
+pub use lines::Line;
 pub use prints::{print, print_in, print_word};
+pub use texts::text;

@@ -1,46 +1,29 @@
 // A line that is being written. It has room for the longest text, so a byte for which it has none is left out, and no caller
 // shows that there is room.
-ghost use Rattle.std.specs.Prelude.{◌≡◌, [], ◌∷◌};
-ghost use Rattle.printer.specs.Line.{blank, added};
+ghost use Rattle.std.specs.Prelude.{◌≡◌, []};
+ghost use Rattle.printer.specs.Line.{added};
 
-#[derive(Clone, Copy)]
+use arrayvec::ArrayVec;
+
+#[derive(Drop)]
 pub struct Line {
-    pub bytes: [u8; 32],
-    pub len: usize,
+    // the bytes so far
+    pub text: ArrayVec<u8, 32>,
 }
 
-pub fn empty() -> Line
-    ensures { result ≡ blank }
-{
-    Line {
-        bytes: [0; 32],
-        len: 0,
+impl Line {
+    pub(crate) fn empty() -> Line
+        ensures { result.text.items ≡ [] }
+    {
+        Line {
+            text: ArrayVec::new(),
+        }
     }
-}
 
-// The line and a byte after it.
-pub fn push(l: Line, b: u8) -> Line
-    ensures { result ≡ added l (b ∷ []) }
-{
-    let n = l.len;
-    if 32 <= n {
-        return l;
+    pub(crate) fn add(&mut self, s: &[u8])
+        ensures { self.new.text.items ≡ added self.old.text.items s.now }
+    {
+        let n = self.text.remaining_capacity().min(s.len());
+        let _ = self.text.try_extend_from_slice(&s[..n]);
     }
-    let mut next = l;
-    next.bytes[n] = b;
-    next.len = n + 1;
-    next
-}
-
-// The line and these bytes after it.
-pub fn add(l: Line, s: &[u8]) -> Line
-    ensures { result ≡ added l s.now }
-{
-    let mut next = l;
-    let mut i: usize = 0;
-    while i < s.len() {
-        next = push(next, s[i]);
-        i += 1;
-    }
-    next
 }

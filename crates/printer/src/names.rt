@@ -1,87 +1,83 @@
 // The names of registers, and the mnemonics.
 ghost use Rattle.std.specs.Prelude.{◌≡◌};
-ghost use Rattle.printer.specs.Line.{added};
 ghost use Rattle.printer.specs.Text.{register_name, arith_name, arithmetic_name, compare_name, shift_name, word_name, byte_name};
 
-use crate::lines::{Line, add};
 use instruction::{ArithOp, ArithmeticOp, CompareOp, Register};
 
-pub fn register(l: Line, r: Register) -> Line
-    ensures { result ≡ added l (register_name r) }
+#[tactic(auto, unfolding(crate::specs::Text::register_name))]
+pub fn register_name(r: Register) -> &'static [u8]
+    ensures { result.now ≡ register_name r }
 {
     match r {
-        Register::A => add(l, b"A"),
-        Register::B => add(l, b"B"),
-        Register::C => add(l, b"C"),
-        Register::M => add(l, b"M"),
-        Register::SP => add(l, b"SP"),
-        Register::PC => add(l, b"PC"),
-        Register::BP => add(l, b"BP"),
-        Register::FLAGS => add(l, b"FLAGS"),
+        Register::A => b"A",
+        Register::B => b"B",
+        Register::C => b"C",
+        Register::M => b"M",
+        Register::SP => b"SP",
+        Register::PC => b"PC",
+        Register::BP => b"BP",
+        Register::FLAGS => b"FLAGS",
     }
 }
 
-pub fn arith_name(l: Line, op: ArithOp) -> Line
-    ensures { result ≡ added l (arith_name op) }
+#[tactic(auto, unfolding(crate::specs::Text::arith_name))]
+pub fn arith_name(op: ArithOp) -> &'static [u8]
+    ensures { result.now ≡ arith_name op }
 {
     match op {
-        ArithOp::Add => add(l, b"ADD"),
-        ArithOp::Sub => add(l, b"SUB"),
-        ArithOp::Mul => add(l, b"MUL"),
-        ArithOp::Div => add(l, b"DIV"),
+        ArithOp::Add => b"ADD",
+        ArithOp::Sub => b"SUB",
+        ArithOp::Mul => b"MUL",
+        ArithOp::Div => b"DIV",
     }
 }
 
-pub fn arithmetic_name(l: Line, op: ArithmeticOp) -> Line
-    ensures { result ≡ added l (arithmetic_name op) }
+#[tactic(auto, unfolding(crate::specs::Text::arithmetic_name))]
+pub fn arithmetic_name(op: ArithmeticOp) -> &'static [u8]
+    ensures { result.now ≡ arithmetic_name op }
 {
     match op {
-        ArithmeticOp::Add => add(l, b"ADDR"),
-        ArithmeticOp::Sub => add(l, b"SUBR"),
-        ArithmeticOp::Mul => add(l, b"MULR"),
-        ArithmeticOp::Div => add(l, b"DIVR"),
-        ArithmeticOp::Mod => add(l, b"MODR"),
-        ArithmeticOp::Exp => add(l, b"EXPR"),
-        ArithmeticOp::Sqrt => add(l, b"SQRTR"),
+        ArithmeticOp::Add => b"ADDR",
+        ArithmeticOp::Sub => b"SUBR",
+        ArithmeticOp::Mul => b"MULR",
+        ArithmeticOp::Div => b"DIVR",
+        ArithmeticOp::Mod => b"MODR",
+        ArithmeticOp::Exp => b"EXPR",
+        ArithmeticOp::Sqrt => b"SQRTR",
     }
 }
 
-pub fn compare_name(l: Line, op: CompareOp) -> Line
-    ensures { result ≡ added l (compare_name op) }
+#[tactic(auto, unfolding(crate::specs::Text::compare_name))]
+pub fn compare_name(op: CompareOp) -> &'static [u8]
+    ensures { result.now ≡ compare_name op }
 {
     match op {
-        CompareOp::Eq => add(l, b"EQ"),
-        CompareOp::NotEq => add(l, b"NEQ"),
-        CompareOp::Less => add(l, b"LT"),
-        CompareOp::LessEq => add(l, b"LTE"),
-        CompareOp::Greater => add(l, b"GT"),
-        CompareOp::GreaterEq => add(l, b"GTE"),
+        CompareOp::Eq => b"EQ",
+        CompareOp::NotEq => b"NEQ",
+        CompareOp::Less => b"LT",
+        CompareOp::LessEq => b"LTE",
+        CompareOp::Greater => b"GT",
+        CompareOp::GreaterEq => b"GTE",
     }
 }
 
-pub fn shift_name(l: Line, left: bool) -> Line
-    ensures { result ≡ added l (shift_name left) }
+#[tactic(auto, unfolding(crate::specs::Text::shift_name))]
+pub fn shift_name(left: bool) -> &'static [u8]
+    ensures { result.now ≡ shift_name left }
 {
-    if left {
-        return add(l, b"MSL");
-    }
-    add(l, b"MSR")
+    if left { b"MSL" } else { b"MSR" }
 }
 
-pub fn word_name(l: Line, store: bool) -> Line
-    ensures { result ≡ added l (word_name store) }
+#[tactic(auto, unfolding(crate::specs::Text::word_name))]
+pub fn word_name(store: bool) -> &'static [u8]
+    ensures { result.now ≡ word_name store }
 {
-    if store {
-        return add(l, b"STR");
-    }
-    add(l, b"LDR")
+    if store { b"STR" } else { b"LDR" }
 }
 
-pub fn byte_name(l: Line, store: bool) -> Line
-    ensures { result ≡ added l (byte_name store) }
+#[tactic(auto, unfolding(crate::specs::Text::byte_name))]
+pub fn byte_name(store: bool) -> &'static [u8]
+    ensures { result.now ≡ byte_name store }
 {
-    if store {
-        return add(l, b"STB");
-    }
-    add(l, b"LDB")
+    if store { b"STB" } else { b"LDB" }
 }

@@ -1,41 +1,26 @@
 // Printing into a lent buffer.
-ghost use Rattle.std.specs.Prelude.{◌≡◌, length, ◌+◌, ◌≤◌};
+ghost use Rattle.std.specs.Prelude.{◌≡◌, length};
 ghost use Rattle.base.specs.Told.{told};
-ghost use Rattle.printer.specs.Print.{placed, print_next_in, print_buffer_in, print_next, print_buffer, word_next, word_buffer};
+ghost use Rattle.printer.specs.Print.{print_next_in, print_buffer_in, print_next, print_buffer, word_next, word_buffer};
 
-use crate::texts::line_of;
+use crate::texts::text;
 use base::Refusal;
 use instruction::{Edition, Instruction, decode};
 
-// Copies the text into out from position at on.
-fn copy(text: &[u8], out: &mut [u8], at: usize)
-    requires { at + length text.now ≤ length out.old }
-    ensures { out.new ≡ placed text.now out.old at }
-{
-    let mut i: usize = 0;
-    while i < text.len() {
-        out[at + i] = text[i];
-        i += 1;
-    }
-}
-
 // Writes the instruction's text into out from position at on, and answers the position after it; 19 where it doesn't fit, and then
 // nothing is written. All other bytes of out stay.
+#[tactic(auto, unfolding(crate::specs::Print::print_next_in, crate::specs::Print::print_buffer_in, crate::specs::Print::placed))]
 pub fn print_in(e: Edition, i: Instruction, out: &mut [u8], at: usize) -> Result<usize, Refusal>
     ensures result_value { told result ≡ print_next_in e i (length out.old) at }
     ensures out_after { out.new ≡ print_buffer_in e i out.old at }
 {
-    let l = line_of(e, i);
-    let bytes = l.bytes;
-    let n = l.len;
-    if out.len() < at {
+    let l = text(e, i);
+    let end = at.checked_add(l.text.len()).ok_or(Refusal::NoRoom)?;
+    if out.len() < end {
         return Err(Refusal::NoRoom);
     }
-    if out.len() - at < n {
-        return Err(Refusal::NoRoom);
-    }
-    copy(&bytes[..n], out, at);
-    Ok(at + n)
+    out[at..end].copy_from_slice(l.text.as_slice());
+    Ok(end)
 }
 
 // The same by the first edition, as a listing shows it.
