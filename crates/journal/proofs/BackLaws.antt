@@ -8,6 +8,7 @@ use lib.Dec.{eqb}
 use lib.ListN.{length}
 use borrow.Author.Tests.{eqb-true, eqb-false, eq-eqb, ne_eqb}
 use native.Mathlib.Omega.{arith}
+use Rattle.std.specs.Prelude.{Option, Some, None}
 use Rattle.base.specs.Choice.{cond}
 use Rattle.map.specs.declared.Map.{Map}
 use Rattle.machine.proofs.Laws as machine-laws
@@ -21,7 +22,7 @@ use Rattle.journal.specs.States.{Whole, valid, valid_whole, emptied}
 use Rattle.journal.specs.Back.{Backed, backed, used_by, fits, restored, newest, with, undone, back_order, back_number, step_back, forget_number, forgotten}
 use Rattle.journal.specs.declared.State.{State}
 use Rattle.journal.specs.declared.Used.{Used}
-use Rattle.journal.specs.declared.Used.TheVariants.{Neither, First, Both, Unknown}
+use Rattle.journal.specs.declared.Used.TheVariants.{Neither, First, Both}
 use Rattle.journal.proofs.StateLaws.{Parts, parts, together}
 
 -- the record fits the state
@@ -29,14 +30,14 @@ abbrev pub fitting : Whole → Record → Bool
 fitting w r = fits w.state.machine.map w.bytes r (used_by r.kind)
 
 -- what is restored has the lengths it had
-pub restored-lengths : (m : Map) (b : Lent) (r : Record) (u : Used) → SameLengths (restored m b r u) b
+pub restored-lengths : (m : Map) (b : Lent) (r : Record) (u : Option Used) → SameLengths (restored m b r u) b
 unfolding restored
-restored-lengths m b r Neither = same-lengths b
-restored-lengths m b r First = store-lengths m b r.first.address r.first.byte
-restored-lengths m b r Both =
+restored-lengths m b r (Some Neither) = same-lengths b
+restored-lengths m b r (Some First) = store-lengths m b r.first.address r.first.byte
+restored-lengths m b r (Some Both) =
     let t = store_byte m b r.second.address r.second.byte in
     then-lengths (store-lengths m t r.first.address r.first.byte) (store-lengths m b r.second.address r.second.byte)
-restored-lengths m b r Unknown = same-lengths b
+restored-lengths m b r None = same-lengths b
 
 module _ (w : Whole) where
   -- ---- the four answers

@@ -6,7 +6,6 @@ pub mod BackCases
 pub mod Demand
 pub mod WalkLaws
 pub mod TakenLaws
-pub mod TurnLaws
 pub mod RunTurns
 pub mod RunLaws
 pub mod ReturnLaws

@@ -9,7 +9,7 @@ use Rattle.map.specs.Regions.{region_is_set, used_regions, spare_regions, protec
 use Rattle.map.specs.Devices.{device_is_set, used_devices, spare_devices, total}
 use Rattle.map.specs.Places.{place, place_from, in_linear, target, guard, somewhere}
 use Rattle.map.specs.Valid as tables
-use Rattle.machine.specs.Answers.{Continue}
+use Rattle.machine.specs.declared.StepAnswer.TheVariants.{Continue}
 use Rattle.machine.specs.Registers as registers
 use Rattle.machine.specs.Acts.{act, addressed, word_at, storing, ended}
 use Rattle.machine.specs.Plan.{plan, fetched, decoded, finished, raised}

@@ -5,17 +5,18 @@ use mathlib.Core.Path.{◌≡◌, refl, ap, ◌∙◌, subst}
 use mathlib.Core.Bool.{Bool, true, false}
 use lib.ListN.{length}
 use native.Mathlib.Omega.{arith}
+use Rattle.std.specs.Prelude.{Some}
 use Rattle.base.specs.Choice.{cond}
 use Rattle.base.specs.Told.{is}
 use Rattle.base.proofs.AddressLaws.{reached-at}
 use Rattle.instruction.specs.Decode.{decode}
 use Rattle.instruction.specs.declared.Instruction.TheVariants.{Noop}
 use Rattle.instruction.specs.declared.Register.TheVariants.{PC}
-use Rattle.machine.specs.Answers.{Continue, Debug}
+use Rattle.machine.specs.declared.StepAnswer.TheVariants.{Continue, Debug}
 use Rattle.machine.specs.Registers.{get, flag}
 use Rattle.machine.specs.Step as machine
 use Rattle.machine.proofs.Laws.{step-noop}
-use Rattle.memory.specs.Words.{a_word, read_word}
+use Rattle.memory.specs.Words.{read_word}
 use Rattle.records.specs.Slots.{room}
 use Rattle.records.proofs.Laws.{filled-own}
 use Rattle.records.proofs.Ring.{before-after}
@@ -66,7 +67,7 @@ module _ (w : Whole) (l : length w.state.machine.registers.value ≡ 8) (h : val
 -- ---- a Noop
 
 module _ (w : Whole) (x : ℕ) (h : valid_whole w ≡ true) (f : flag w.state.machine.registers 0 ≡ false)
-    (r : read_word w.state.machine.map w.bytes (get w.state.machine.registers PC) ≡ is (a_word x))
+    (r : read_word w.state.machine.map w.bytes (get w.state.machine.registers PC) ≡ is (Some x))
     (d : decode x ≡ is Noop)
     (p : get w.state.machine.registers PC + 2 ≤ 65535) where
   pub noop-accepted : is_accepted (step w).answer ≡ true

@@ -9,7 +9,8 @@ use Rattle.base.specs.Choice.{cond}
 use Rattle.base.specs.Told.{Told, is, no}
 use Rattle.base.proofs.ToldLaws.{is-not-no}
 use Rattle.base.proofs.Tests.{clash}
-use Rattle.machine.specs.Answers.{Reply, Continue, Debug, Stop}
+use Rattle.machine.specs.declared.StepAnswer.{StepAnswer}
+use Rattle.machine.specs.declared.StepAnswer.TheVariants.{Continue, Debug, Stop}
 use Rattle.journal.specs.States.{Whole, valid_whole}
 use Rattle.journal.specs.Step.{Result, is_accepted, step}
 use Rattle.journal.specs.Run.{Ran, ran, one_more, goes_on, counts, repeated, run}
@@ -28,7 +29,7 @@ pub record Walks (w : Whole) (n : ℕ) (r : Ran) : Type 0 where
   pub stops : is_accepted r.answer ≡ false → (step r.whole).answer ≡ r.answer
 
 -- no step was accepted
-none-walks : (w : Whole) (n : ℕ) (a : Told Reply) (v : Whole) → v ≡ w → (a ≡ is Continue → 0 ≡ n)
+none-walks : (w : Whole) (n : ℕ) (a : Told StepAnswer) (v : Whole) → v ≡ w → (a ≡ is Continue → 0 ≡ n)
     → (is_accepted a ≡ false → (step w).answer ≡ a) → Walks w n (ran a 0 v)
 unfolding walk steps
 none-walks w n a v e f g = record {
@@ -40,10 +41,10 @@ none-walks w n a v e f g = record {
 }
 
 -- what a step's answer leads to
-abbrev onward : Told Reply → Whole → Ran → Ran
+abbrev onward : Told StepAnswer → Whole → Ran → Ran
 onward a w rest = cond (goes_on a) (one_more rest) (ran a (counts a) w)
 
-onward-walks : (w : Whole) (n : ℕ) (a : Told Reply) → (step w).answer ≡ a → (rest : Ran) → Walks (step w).whole n rest
+onward-walks : (w : Whole) (n : ℕ) (a : Told StepAnswer) → (step w).answer ≡ a → (rest : Ran) → Walks (step w).whole n rest
     → Walks w (suc n) (onward a (step w).whole rest)
 unfolding goes_on counts walk after_move steps is_accepted
 onward-walks w n (is Continue) e rest k = record {

@@ -6,7 +6,8 @@ use native.Mathlib.Omega.{arith}
 use Rattle.base.specs.Choice.{cond}
 use Rattle.base.specs.Told.{Told, is, no}
 use Rattle.base.proofs.Tests.{clash}
-use Rattle.machine.specs.Answers.{Reply, Continue, Debug, Stop}
+use Rattle.machine.specs.declared.StepAnswer.{StepAnswer}
+use Rattle.machine.specs.declared.StepAnswer.TheVariants.{Continue, Debug, Stop}
 use Rattle.journal.specs.States.{Whole, valid_whole}
 use Rattle.journal.specs.Step.{Result, result_of, step}
 use Rattle.journal.proofs.StepLaws.{invalid-step}
@@ -31,7 +32,7 @@ module _ (n k : ℕ) (w v : Whole) (i : counted k (repeated (n - k) w) ≡ repea
       let f : k + 0 ≡ k = omega arith in
       ap (λ (x : ℕ). ran (is Continue) x w) (sym f) ∙ sym (ap (λ (x : ℕ). counted k (repeated x w)) e) ∙ i
 
-  module _ (h : k < n) (a : Told Reply) (u : Whole) (e : result_of a u ≡ step w) where
+  module _ (h : k < n) (a : Told StepAnswer) (u : Whole) (e : result_of a u ≡ step w) where
     -- the step, and what is left after it
     stepped : counted k (cond (goes_on a) (one_more (repeated (n - (k + 1)) u)) (ran a (counts a) u)) ≡ repeated n v
     unfolding repeated
@@ -52,7 +53,7 @@ module _ (n k : ℕ) (w v : Whole) (i : counted k (repeated (n - k) w) ≡ repea
 
 -- ---- a run of one is a step
 
-going-continues : (a : Told Reply) → goes_on a ≡ true → a ≡ is Continue
+going-continues : (a : Told StepAnswer) → goes_on a ≡ true → a ≡ is Continue
 unfolding goes_on
 going-continues (is Continue) e = refl
 going-continues (is Debug) e = clash e
@@ -65,5 +66,5 @@ run-one w = go (valid_whole w) refl (goes_on (step w).answer) refl
   where
     go : (v : Bool) → valid_whole w ≡ v → (g : Bool) → goes_on (step w).answer ≡ g → result_of (run 1 w).answer (run 1 w).whole ≡ step w
     go false v g e = rw v (sym (invalid-step w v))
-    go true v true e = rw (v, e) (ap (λ (a : Told Reply). result_of a (step w).whole) (sym (going-continues (step w).answer e)))
+    go true v true e = rw (v, e) (ap (λ (a : Told StepAnswer). result_of a (step w).whole) (sym (going-continues (step w).answer e)))
     go true v false e = rw (v, e)

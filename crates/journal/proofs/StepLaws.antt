@@ -10,11 +10,12 @@ use native.Mathlib.Omega.{arith}
 use Rattle.base.specs.Told.{Told, is, no}
 use Rattle.base.proofs.Tests.{clash}
 use Rattle.base.proofs.ToldLaws.{Numbered}
-use Rattle.machine.specs.Answers as answers
 use Rattle.machine.specs.Plan.{plan}
 use Rattle.machine.specs.Step as machine
 use Rattle.machine.specs.States as machine-states
 use Rattle.machine.specs.declared.Registers.{Registers}
+use Rattle.machine.specs.declared.StepAnswer.{StepAnswer}
+use Rattle.machine.specs.declared.StepAnswer.TheVariants.{Continue, Debug, Stop}
 use Rattle.machine.proofs.Laws as machine-laws
 use Rattle.memory.specs.Bytes.{Lent}
 use Rattle.memory.specs.declared.Changes.{Changes}
@@ -199,12 +200,12 @@ module _ (w : Whole) where
     pub bytes : (step w).whole.bytes ≡ (own w).bytes
 
   -- what is not accepted changes nothing there either
-  unaccepted-own : (a : Told answers.Reply) → (own w).answer ≡ a → is_accepted a ≡ false
+  unaccepted-own : (a : Told StepAnswer) → (own w).answer ≡ a → is_accepted a ≡ false
       → own w ≡ machine.after a w.state.machine w.bytes
   unfolding is_accepted
-  unaccepted-own (is answers.Continue) e n = clash (sym n)
-  unaccepted-own (is answers.Debug) e n = clash (sym n)
-  unaccepted-own (is answers.Stop) e n = machine-laws.step-stopped w.state.machine w.bytes e
+  unaccepted-own (is Continue) e n = clash (sym n)
+  unaccepted-own (is Debug) e n = clash (sym n)
+  unaccepted-own (is Stop) e n = machine-laws.step-stopped w.state.machine w.bytes e
   unaccepted-own (no k) e n = machine-laws.step-refused w.state.machine w.bytes k e
 
   pub step-own : valid_whole w ≡ true → Own
@@ -234,13 +235,13 @@ module _ (w : Whole) where
       go false h = subst⁻¹ (λ (x : Result). Numbered 1 9 x.answer) (invalid-step h) (omega arith, omega arith)
 
   -- so what holds of Continue and Debug as accepted, and of Stop and these numbers as not accepted, holds of every step's answer
-  pub every-answer : (P : Told answers.Reply → Bool → Type 0) → P (is answers.Continue) true → P (is answers.Debug) true
-      → P (is answers.Stop) false → ((n : ℕ) → 1 ≤ n → n ≤ 9 → P (no n) false) → P (step w).answer (is_accepted (step w).answer)
+  pub every-answer : (P : Told StepAnswer → Bool → Type 0) → P (is Continue) true → P (is Debug) true
+      → P (is Stop) false → ((n : ℕ) → 1 ≤ n → n ≤ 9 → P (no n) false) → P (step w).answer (is_accepted (step w).answer)
   unfolding is_accepted
   every-answer P continues debugs stops refused = go (step w).answer step-numbered
     where
-      go : (a : Told answers.Reply) → Numbered 1 9 a → P a (is_accepted a)
-      go (is answers.Continue) h = continues
-      go (is answers.Debug) h = debugs
-      go (is answers.Stop) h = stops
+      go : (a : Told StepAnswer) → Numbered 1 9 a → P a (is_accepted a)
+      go (is Continue) h = continues
+      go (is Debug) h = debugs
+      go (is Stop) h = stops
       go (no n) h = refused n h.0 h.1

@@ -1,6 +1,7 @@
 -- A record undoes its step: each byte that was stored is put back by memory's own law, the second one first, and the registers
 -- are those it holds. Assumes nothing.
 use Prim.Native.Nat.{ℕ}
+use Rattle.std.specs.Prelude.{Some}
 use mathlib.Core.Path.{◌≡◌, refl, sym, ap, ◌∙◌}
 use mathlib.Core.Bool.{true}
 use Rattle.map.specs.declared.Map.{Map}
@@ -15,7 +16,6 @@ use Rattle.memory.specs.Words.{made}
 use Rattle.memory.specs.declared.Change.{Change}
 use Rattle.memory.specs.declared.Changes.{Changes}
 use Rattle.memory.specs.declared.Changes.TheVariants.{Nothing, One, Two}
-use Rattle.memory.specs.declared.Read.TheVariants.{Byte}
 use Rattle.memory.proofs.Laws.{store-undo, takes-kept, takes-mapped, read-other}
 use Rattle.memory.proofs.Decisions.{SoundChange, Sound, old-byte, nothing-made, one-stored, two-stored}
 use Rattle.records.specs.declared.Record.{Record}
@@ -30,11 +30,11 @@ use Rattle.journal.proofs.StepLaws.{own, own_record, record-registers}
 module _ (m : Map) (b : Lent) where
   -- the old byte of a change is the one that is read at its address
   old-read : (x : Change) → SoundChange m b x
-      → read_byte m b x.address ≡ Byte (byte_of (get x.place b)) (place_in m b x.address)
+      → read_byte m b x.address ≡ Some (byte_of (get x.place b), place_in m b x.address)
   unfolding byte_of
   old-read x h =
       let k = takes-mapped m b x.address x.byte h.taken in
-      k.1 ∙ ap (λ (v : ℕ). Byte v (place_in m b x.address)) (sym (ap byte_of (old-byte m b x h ∙ k.1)))
+      k.1 ∙ ap (λ (v : ℕ). Some (v, place_in m b x.address)) (sym (ap byte_of (old-byte m b x h ∙ k.1)))
 
   -- two stores change nothing of what takes a store
   both-kept : (x y : Change) (a : ℕ)

@@ -1,5 +1,5 @@
 -- Step-back moves `next` back, lowers held, restores second byte, first byte, registers; the slot stays. Order: 1, 10, 11.
-use Rattle.std.specs.Prelude.{ℕ, zero, suc, ◌-◌, Bool, true, false, not, ◌&&◌, List, [], ◌∷◌, eqb}
+use Rattle.std.specs.Prelude.{ℕ, zero, suc, ◌-◌, Bool, true, false, not, ◌&&◌, List, [], ◌∷◌, eqb, Option, Some, None}
 use Rattle.base.specs.Choice.{cond}
 use Rattle.base.specs.Order.{Refusing, ◌when◌, first_of}
 use Rattle.machine.specs.States as machine
@@ -10,7 +10,7 @@ use Rattle.records.specs.Slots.{room, record_at, slot_before}
 use Rattle.records.specs.declared.Record.{Record}
 use Rattle.journal.specs.States.{Whole, whole, state, valid, valid_whole, emptied}
 use Rattle.journal.specs.declared.Used.{Used}
-use Rattle.journal.specs.declared.Used.TheVariants.{Neither, First, Both, Unknown}
+use Rattle.journal.specs.declared.Used.TheVariants.{Neither, First, Both}
 use Rattle.journal.specs.declared.State.{State}
 
 -- a step-back's number, 0 where it is accepted, and all there is after it
@@ -23,26 +23,26 @@ backed n w = record { number = n; whole = w }
 
 -- ---- a record
 
--- which of its two places a kind uses: that many bytes were stored
-unfoldable pub used_by : ℕ → Used
-used_by zero = Neither
-used_by (suc zero) = First
-used_by (suc (suc zero)) = Both
-used_by (suc (suc (suc n))) = Unknown
+-- which of its two places a kind uses: that many bytes were stored; none has a kind over 2
+unfoldable pub used_by : ℕ → Option Used
+used_by zero = Some Neither
+used_by (suc zero) = Some First
+used_by (suc (suc zero)) = Some Both
+used_by (suc (suc (suc n))) = None
 
 -- 11: kind over 2, or a used address takes no store
-unfoldable pub fits : Map → Lent → Record → Used → Bool
-fits m b r Neither = true
-fits m b r First = takes m b r.first.address
-fits m b r Both = takes m b r.second.address && takes m b r.first.address
-fits m b r Unknown = false
+unfoldable pub fits : Map → Lent → Record → Option Used → Bool
+fits m b r (Some Neither) = true
+fits m b r (Some First) = takes m b r.first.address
+fits m b r (Some Both) = takes m b r.second.address && takes m b r.first.address
+fits m b r None = false
 
 -- second byte, first byte
-unfoldable pub restored : Map → Lent → Record → Used → Lent
-restored m b r Neither = b
-restored m b r First = store_byte m b r.first.address r.first.byte
-restored m b r Both = store_byte m (store_byte m b r.second.address r.second.byte) r.first.address r.first.byte
-restored m b r Unknown = b
+unfoldable pub restored : Map → Lent → Record → Option Used → Lent
+restored m b r (Some Neither) = b
+restored m b r (Some First) = store_byte m b r.first.address r.first.byte
+restored m b r (Some Both) = store_byte m (store_byte m b r.second.address r.second.byte) r.first.address r.first.byte
+restored m b r None = b
 
 -- ---- the newest one
 

@@ -1,5 +1,4 @@
 pub mod States
-pub mod Turns
 pub mod Step
 pub mod Back
 pub mod Run

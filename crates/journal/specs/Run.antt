@@ -3,16 +3,17 @@
 use Rattle.std.specs.Prelude.{ℕ, zero, suc, Bool, true, false}
 use Rattle.base.specs.Choice.{cond}
 use Rattle.base.specs.Told.{Told, is, no}
-use Rattle.machine.specs.Answers.{Reply, Continue, Debug, Stop}
+use Rattle.machine.specs.declared.StepAnswer.{StepAnswer}
+use Rattle.machine.specs.declared.StepAnswer.TheVariants.{Continue, Debug, Stop}
 use Rattle.journal.specs.States.{Whole, valid}
 use Rattle.journal.specs.Step.{is_accepted, step}
 
 pub record Ran : Type 0 where
-  pub answer : Told Reply
+  pub answer : Told StepAnswer
   pub count : ℕ
   pub whole : Whole
 
-abbrev pub ran : Told Reply → ℕ → Whole → Ran
+abbrev pub ran : Told StepAnswer → ℕ → Whole → Ran
 ran a n w = record { answer = a; count = n; whole = w }
 
 -- one accepted step more, before the others
@@ -20,14 +21,14 @@ abbrev pub one_more : Ran → Ran
 one_more r = ran r.answer (suc r.count) r.whole
 
 -- only Continue leads on
-unfoldable pub goes_on : Told Reply → Bool
+unfoldable pub goes_on : Told StepAnswer → Bool
 goes_on (is Continue) = true
 goes_on (is Debug) = false
 goes_on (is Stop) = false
 goes_on (no n) = false
 
 -- a step counts if it is accepted, Debug included
-unfoldable pub counts : Told Reply → ℕ
+unfoldable pub counts : Told StepAnswer → ℕ
 counts a = cond (is_accepted a) 1 0
 
 unfoldable pub repeated : ℕ → Whole → Ran

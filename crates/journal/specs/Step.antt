@@ -1,18 +1,18 @@
 -- The recording step. An accepted step fills slot `next`, moves it on modulo D, and raises held to at most D. With D = 0
 -- nothing is recorded. Stop and refusals record nothing.
-use Rattle.std.specs.Prelude.{ℕ, ◌+◌, min, Bool, true, false, List, eqb}
+use Rattle.std.specs.Prelude.{ℕ, ◌+◌, min, Bool, true, false, List, eqb, Option, Some, None}
 use Rattle.base.specs.Choice.{cond}
 use Rattle.base.specs.Told.{Told, is, no}
-use Rattle.machine.specs.Answers as answers
 use Rattle.machine.specs.Plan.{plan}
 use Rattle.machine.specs.Step as machine
 use Rattle.machine.specs.declared.Registers.{Registers}
+use Rattle.machine.specs.declared.StepAnswer.{StepAnswer}
+use Rattle.machine.specs.declared.StepAnswer.TheVariants.{Continue, Debug, Stop}
+use Rattle.map.specs.declared.Place.{Place}
 use Rattle.memory.specs.Bytes.{Lent, get}
 use Rattle.memory.specs.declared.Change.{Change}
 use Rattle.memory.specs.declared.Changes.{Changes}
 use Rattle.memory.specs.declared.Changes.TheVariants.{Nothing, One, Two}
-use Rattle.memory.specs.declared.Read.{Read}
-use Rattle.memory.specs.declared.Read.TheVariants.{Byte, Unmapped}
 use Rattle.records.specs.Records.{old, entry}
 use Rattle.records.specs.Slots.{room, filled, slot_after}
 use Rattle.records.specs.declared.Old.{Old}
@@ -22,24 +22,24 @@ use Rattle.journal.specs.declared.State.{State}
 
 -- a step's answer, and all there is after it
 pub record Result : Type 0 where
-  pub answer : Told answers.Reply
+  pub answer : Told StepAnswer
   pub whole : Whole
 
-abbrev pub result_of : Told answers.Reply → Whole → Result
+abbrev pub result_of : Told StepAnswer → Whole → Result
 result_of a w = record { answer = a; whole = w }
 
 -- accepted means Continue or Debug
-unfoldable pub is_accepted : Told answers.Reply → Bool
-is_accepted (is answers.Continue) = true
-is_accepted (is answers.Debug) = true
-is_accepted (is answers.Stop) = false
+unfoldable pub is_accepted : Told StepAnswer → Bool
+is_accepted (is Continue) = true
+is_accepted (is Debug) = true
+is_accepted (is Stop) = false
 is_accepted (no n) = false
 
 -- ---- the record of a step
 
-unfoldable pub byte_of : Read → ℕ
-byte_of (Byte v p) = v
-byte_of Unmapped = 0
+unfoldable pub byte_of : Option (ℕ × Place) → ℕ
+byte_of (Some (v, p)) = v
+byte_of None = 0
 
 -- address and old byte of a byte to be stored
 unfoldable pub replaced : Lent → Change → Old

@@ -7,7 +7,7 @@ mod states;
 mod steps;
 
 pub use backs::{forget, step_back};
-use base::Answer;
+use base::Refusal;
 use machine::{Machine, StepAnswer};
 pub use runs::{run, step};
 pub use states::{new, valid};
@@ -26,27 +26,11 @@ pub enum Used {
     Neither,
     First,
     Both,
-    Unknown,
 }
 
-// A step's answer and the state after it: as it was where nothing was accepted.
-#[derive(Clone, Copy)]
-pub struct Stepped {
-    pub answer: StepAnswer,
-    pub state: State,
-}
-
-// A run's answer, which is its last step's, the steps that were accepted, and the state after them.
+// A run's answer, which is its last step's, and the steps that were accepted.
 #[derive(Clone, Copy)]
 pub struct Ran {
-    pub answer: StepAnswer,
+    pub answer: Result<StepAnswer, Refusal>,
     pub count: u32,
-    pub state: State,
-}
-
-// An entry's verdict and the state after it: as it was where the verdict is a refusal.
-#[derive(Clone, Copy)]
-pub struct Changed {
-    pub answer: Answer,
-    pub state: State,
 }

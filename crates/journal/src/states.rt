@@ -5,26 +5,20 @@ ghost use Rattle.journal.specs.States.{valid, fresh};
 use crate::State;
 
 // The tables are valid, no more is held than the journal has room for, and next is one of its slots.
+#[tactic(auto, unfolding(crate::specs::States::valid, crate::specs::States::next_in))]
 pub fn valid(s: State, dev: &[u8], journal: &[u8]) -> bool
     ensures { result ≡ valid s dev.now journal.now }
 {
-    if !machine::valid(s.machine, dev) {
-        return false;
-    }
     let d = records::room(journal);
-    if d < s.held {
-        return false;
-    }
-    if d == 0 { s.next == 0 } else { s.next < d }
+    machine::valid(s.machine, dev) && s.held <= d && (s.next < d || s.next == 0 && d == 0)
 }
 
 // A new state: the machine is new, nothing is held.
 pub fn new(debug: bool) -> State
     ensures { result ≡ fresh debug }
 {
-    let machine = machine::new(debug);
     State {
-        machine,
+        machine: machine::new(debug),
         next: 0,
         held: 0,
     }

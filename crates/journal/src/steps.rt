@@ -1,60 +1,27 @@
 // The step, planned, recorded and committed.
 ghost use Rattle.std.specs.Prelude.{◌≡◌, true, ◌≤◌, ◌<◌, max};
-ghost use Rattle.machine.specs.Answers.{answered};
+ghost use Rattle.base.specs.Told.{told};
 ghost use Rattle.machine.specs.Moves.{regs};
-ghost use Rattle.machine.specs.declared.Machine.{Machine};
 ghost use Rattle.memory.specs.Bytes.{lent};
 ghost use Rattle.records.specs.Slots.{room};
-ghost use Rattle.journal.specs.States.{whole, state, valid};
-ghost use Rattle.journal.specs.Turns.{state_of, going_from, going_after};
-ghost use Rattle.journal.specs.Step.{result_of, is_accepted, replaced, record_of, advanced, noted, step};
+ghost use Rattle.journal.specs.States.{whole, valid};
+ghost use Rattle.journal.specs.Step.{result_of, replaced, record_of, advanced, noted, step};
 
 use crate::State;
-use instruction::Register;
-use machine::{Machine, Mode, Registers, StepAnswer};
-use map::Map;
-use memory::{Change, Changes, Read};
+use base::Refusal;
+use machine::StepAnswer;
+use memory::{Change, Changes};
 use records::{Old, Record};
 
-// How the journal stands: the slot that the next record goes to, and how many are held. Beside the registers this is all that changes from
-// step to step: tables and mode stay, and a run does not carry them along.
-#[derive(Clone, Copy)]
-pub struct Ring {
-    pub next: u16,
-    pub held: u16,
-}
-
-// A step's answer, and what goes on from it: one register gets a value, and then PC its own.
-#[derive(Clone, Copy)]
-pub struct Turned {
-    pub answer: StepAnswer,
-    pub register: Register,
-    pub value: u16,
-    pub pc: u16,
-    pub ring: Ring,
-}
-
-// Continue and Debug.
-pub fn is_accepted(a: StepAnswer) -> bool
-    ensures { result ≡ is_accepted (answered a) }
-{
-    match a {
-        StepAnswer::Continue => true,
-        StepAnswer::Debug => true,
-        StepAnswer::Stop => false,
-        StepAnswer::Refused(_) => false,
-    }
-}
-
 // The byte that is still at the place of a byte to be stored.
+#[tactic(auto, unfolding(crate::specs::Step::replaced, crate::specs::Step::byte_of))]
 fn replaced(x: Change, mem: &[u8], dev: &[u8]) -> Old
     ensures { result ≡ replaced (lent mem.now dev.now) x }
 {
     let address = x.address;
-    let p = x.place;
-    match memory::read_at(p, mem, dev) {
-        Read::Byte(byte, _) => Old { address, byte },
-        Read::Unmapped => Old { address, byte: 0 },
+    match memory::read_at(x.place, mem, dev) {
+        Some((byte, _)) => Old { address, byte },
+        None => Old { address, byte: 0 },
     }
 }
 
@@ -89,92 +56,47 @@ fn record_of(registers: [u16; 8], mem: &[u8], dev: &[u8], c: Changes) -> Record
 }
 
 // A record more, in a journal with room for d: the bytes that are to be replaced are still there.
-fn note(
-    g: &[u16; 8],
-    ring: Ring,
-    mem: &[u8],
-    dev: &[u8],
-    c: Changes,
-    journal: &mut [u8],
-    d: u16,
-) -> Ring
+#[tactic(auto, unfolding(crate::specs::Step::advanced, crate::specs::Step::noted))]
+fn note(s: &mut State, mem: &[u8], dev: &[u8], c: Changes, journal: &mut [u8], d: u16)
     requires d_value { d ≡ room journal.old }
-    requires held_le_d { (ring.held ≤ d) × (ring.next < max 1 d) }
-    ensures fact { ((m : Machine) → state m result.next result.held ≡ advanced (state m ring.next ring.held) d) }
-    ensures journal_after { journal.new ≡ noted ring.next d (record_of (regs g.now) (lent mem.now dev.now) c) journal.old }
+    requires held_le_d { (s.old.held ≤ d) × (s.old.next < max 1 d) }
+    ensures state_after { s.new ≡ advanced s.old d }
+    ensures journal_after { journal.new ≡ noted s.old.next d (record_of s.old.machine.registers (lent mem.now dev.now) c) journal.old }
 {
     if d == 0 {
-        return ring;
+        return;
     }
-    let r = record_of(*g, mem, dev, c);
-    records::fill(journal, ring.next, r);
-    Ring {
-        next: records::slot_after(d, ring.next),
-        held: records::one_more(d, ring.held),
-    }
+    let r = record_of(s.machine.registers.value, mem, dev, c);
+    records::fill(journal, s.next, r);
+    s.next = records::slot_after(d, s.next);
+    s.held = records::one_more(d, s.held);
 }
 
-// Nothing changes: PC, the sixth, gets what it has.
-fn unmoved(g: &[u16; 8], ring: Ring, answer: StepAnswer) -> Turned
-    ensures { (result.answer ≡ answer) × (going_after g.now result ≡ going_from g.now ring) }
-{
-    let pc = g[5];
-    Turned {
-        answer,
-        register: Register::PC,
-        value: pc,
-        pc,
-        ring,
-    }
-}
-
-// A step of a valid state, which stays valid. Only what changes from step to step is handed on.
+// A step of a valid state, which stays valid. The registers stay where they are, and two numbers are stored into them.
 pub fn turn(
-    g: &[u16; 8],
-    ring: Ring,
-    mode: Mode,
-    map: Map,
+    s: &mut State,
     mem: &mut [u8],
     dev: &mut [u8],
     journal: &mut [u8],
     d: u16,
-) -> Turned
+) -> Result<StepAnswer, Refusal>
     requires d_value { d ≡ room journal.old }
-    requires journal_value { valid (state_of (going_from g.now ring) mode map) dev.old journal.old ≡ true }
-    ensures journal_after { result_of (answered result.answer) (whole (state_of (going_after g.now result) mode map) (lent mem.new dev.new) journal.new) ≡ step (whole (state_of (going_from g.now ring) mode map) (lent mem.old dev.old) journal.old) }
-    ensures journal_after_2 { valid (state_of (going_after g.now result) mode map) dev.new journal.new ≡ true }
+    requires journal_value { valid s.old dev.old journal.old ≡ true }
+    ensures journal_after { result_of (told result) (whole s.new (lent mem.new dev.new) journal.new) ≡ step (whole s.old (lent mem.old dev.old) journal.old) }
+    ensures stays_valid { valid s.new dev.new journal.new ≡ true }
 {
-    let p = machine::move_of(g, mode, map, mem, dev);
-    let answer = p.answer;
-    if !is_accepted(answer) {
-        return unmoved(g, ring, answer);
+    let m = machine::move_of(
+        &s.machine.registers.value,
+        s.machine.mode,
+        s.machine.map,
+        mem,
+        dev,
+    )?;
+    if let StepAnswer::Stop = m.answer {
+        return Ok(StepAnswer::Stop);
     }
-    let c = p.changes;
-    let after = note(g, ring, mem, dev, c, journal, d);
-    memory::make(c, mem, dev);
-    let register = p.register;
-    Turned {
-        answer,
-        register,
-        value: p.value,
-        pc: p.pc,
-        ring: after,
-    }
-}
-
-// The state, put together again.
-pub fn state_of(g: [u16; 8], ring: Ring, mode: Mode, map: Map) -> State
-    ensures { result ≡ state_of (going_from g ring) mode map }
-{
-    let registers = Registers { value: g };
-    let machine = Machine {
-        registers,
-        mode,
-        map,
-    };
-    State {
-        machine,
-        next: ring.next,
-        held: ring.held,
-    }
+    note(s, mem, dev, m.changes, journal, d);
+    memory::make(m.changes, mem, dev);
+    machine::store(&mut s.machine.registers.value, m.register, m.value, m.pc);
+    Ok(m.answer)
 }

@@ -7,14 +7,5 @@ use Rattle.journal.specs.Run.{Ran}
 use Rattle.journal.proofs.RunTurns.{run-one}
 use Rattle.journal.proofs.runs.step.Goals as goal
 
-pub shape_of-mem : goal.shape_of-mem
-shape_of-mem c = c.run-r.auto.mem
-
-pub shape_of-dev : goal.shape_of-dev
-shape_of-dev c = c.run-r.auto.dev
-
-pub shape_of-journal : goal.shape_of-journal
-shape_of-journal c = c.run-r.auto.journal
-
 pub returns : goal.returns
-returns c = ap (λ (y : Ran). result_of y.answer y.whole) c.run-r.ensures ∙ run-one (whole c.args.s (lent c.args.mem.now c.args.dev.now) c.args.journal.now)
+returns c = ap (λ (y : Ran). result_of y.answer y.whole) c.run.ensures ∙ run-one (whole c.args.s.now (lent c.args.mem.now c.args.dev.now) c.args.journal.now)
