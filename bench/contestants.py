@@ -49,7 +49,7 @@ def ours():
         print(f"ours: {sys.argv[1]}, as it was given")
         return pathlib.Path(sys.argv[1]).resolve()
     print(f"ours: proved and built by {programs.first_line('rt', 'version')}")
-    return programs.build_ours(RUN, "pace", "base map machine journal", "0\n" * 12)
+    return programs.build_ours(RUN, "pace", "base inputs map machine journal", "0\n" * 12)
 
 
 def interpreter(name, compiler, level, what):

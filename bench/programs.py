@@ -39,9 +39,6 @@ def build_ours(folder, crate, uses, wrote):
     made = copy / "crates" / crate
     (made / "src").mkdir(parents=True)
     shutil.copy(folder / "main.rattle", made / "src" / "main.rt")
-    for proof in folder.glob("*.invariants"):
-        (made / "proofs" / proof.stem).mkdir(parents=True)
-        shutil.copy(proof, made / "proofs" / proof.stem / "Invariants.antt")
     call("rt", "run", "--cpu", "x86-64", cwd=made)
     program = made / "out" / crate
     if run(on_x86_64(program), b"")[0].decode() != wrote:
