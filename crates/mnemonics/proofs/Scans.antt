@@ -1,74 +1,79 @@
--- One turn of each loop: what is found from place i on is what is found at i, or from the next place on. Assumes nothing.
-use Prim.Native.Nat.{ℕ, zero, suc, ◌+◌, ◌≤◌, ◌<◌}
-use mathlib.Core.Path.{◌≡◌, refl, sym, ◌∙◌}
+-- A row is found through the library's folding of letters as by the definition's: a name in capitals is a token's in lower case
+-- exactly where it is in upper case. Assumes nothing.
+use Prim.Native.Nat.{ℕ}
+use mathlib.Core.Path.{◌≡◌, refl, sym}
 use mathlib.Core.List.{List, [], ◌∷◌, map}
 use mathlib.Core.Bool.{Bool, true, false, ◌&&◌}
-use native.Mathlib.Nat.{not-suc-le-zero, le_of_suc-le-suc}
-use native.Mathlib.Numerals.{add-one}
-use lib.ListN.{length, drop, get_or, drop_of_length-le, length-map}
-use lib.Seq.{drop-cons}
-use lib.Dec.{leb}
-use borrow.Author.Tests.{eq-eqb, ne_eqb, leb-true}
+use native.Mathlib.Omega.{arith}
+use denote.Ref.{Bor}
+use lib.Dec.{eqb, leb}
+use Rattle.std.specs.Prelude.{Option, Some, None}
+use Rattle.std.specs.Char.{to_ascii_lowercase}
+use Rattle.std.specs.List.{find}
+use Rattle.std.specs.Option.{option_map}
+use Rattle.std.proofs.Common.{cond as std-cond}
+use Rattle.std.proofs.lemmas.Bool.Decides.{nat_tests}
 use Rattle.base.specs.Bytes.{same}
-use Rattle.base.proofs.SameLaws.{same-lengths}
+use Rattle.base.specs.Choice.{cond}
+use Rattle.base.proofs.SameLaws.{same-equal, same_self}
 use Rattle.base.proofs.Tests.{and_left, and_right}
-use Rattle.mnemonics.specs.declared.Mnemonic.{Mnemonic}
-use Rattle.mnemonics.specs.declared.Kind.TheVariants.{Unknown}
-use Rattle.mnemonics.specs.Mnemonics.{rows, upper}
-use Rattle.mnemonics.specs.Tables.{first_row}
+use Rattle.mnemonics.specs.Tables.{Row}
+use Rattle.mnemonics.specs.Mnemonics.{upper, kind_in, row_of}
+use Rattle.mnemonics.specs.declared.Kind.{Kind}
 
--- ---- a token t and a name, byte after byte
+-- a capital letter
+abbrev pub is_capital : ℕ → Bool
+is_capital b = leb 65 b && leb b 90
 
-module _ (t name : List ℕ) (i : ℕ) (ht : i < length t) (hn : i < length name) where
-  pub letter-alike : upper (get_or t i 0) ≡ get_or name i 0 → same (map upper (drop i t)) (drop i name) ≡ same (map upper (drop (i + 1) t)) (drop (i + 1) name)
-  letter-alike e = rw (add-one, drop-cons t i 0, drop-cons name i 0, eq-eqb _ _ e)
+letter : (b c : ℕ) → is_capital b ≡ true → eqb (upper c) b ≡ eqb (to_ascii_lowercase b) (to_ascii_lowercase c)
+unfolding upper
+letter b c h = grind (arith, nat_tests)
 
-  pub letter-differs : (upper (get_or t i 0) ≡ get_or name i 0 → ⊥) → same (map upper (drop i t)) (drop i name) ≡ false
-  letter-differs e = rw (drop-cons t i 0, drop-cons name i 0, ne_eqb _ _ e)
+-- a test that holds of each
+abbrev pub every : {A : Type 0} → (A → Bool) → List A → Bool
+every rule [] = true
+every rule (x ∷ xs) = rule x && every rule xs
 
-pub letters-end : (t name : List ℕ) (i : ℕ) → length t ≤ i → length name ≤ i → same (map upper (drop i t)) (drop i name) ≡ true
-letters-end t name i ht hn = rw (drop_of_length-le t ht, drop_of_length-le name hn)
+-- a name in capitals, folded as the token is
+pub folds : (name token : List ℕ) → every is_capital name ≡ true → same (map upper token) name ≡ same (map to_ascii_lowercase name) (map to_ascii_lowercase token)
+folds [] [] h = refl
+folds [] (c ∷ cs) h = refl
+folds (b ∷ bs) [] h = refl
+folds (b ∷ bs) (c ∷ cs) h =
+    rw (letter b c (and_left (is_capital b) (every is_capital bs) h), folds bs cs (and_right (is_capital b) (every is_capital bs) h))
 
-pub length-differs : (t name : List ℕ) → (length t ≡ length name → ⊥) → same (map upper t) name ≡ false
-length-differs t name h = same-lengths (map upper t) name (λ e. h (sym (length-map t upper) ∙ e))
+-- the library's answer to whether two lists are equal is the definition's
+pub same_is : (t : Bool) (a b : List ℕ) → (t ≡ true → a ≡ b) → (a ≡ b → t ≡ true) → t ≡ same a b
+same_is true a b f g = rw (f refl) (sym (same_self b))
+same_is false a b f g = go (same a b) refl
+  where
+    go : (u : Bool) → same a b ≡ u → false ≡ u
+    go true e = let z : false ≡ true = g (same-equal a b e) in cc
+    go false e = refl
 
--- ---- a table, row after row; d is what stands past its end
+-- a row of the code's table, and whether the token spells it
+abbrev pub Entry : Type 0
+Entry = Bor (List ℕ) × Kind
 
-module _ {A B : Type 0} (passes : A → Bool) (says : A → B) (none : B) (rows : List A) (d : A) (i : ℕ) where
-  pub row-hit : i < length rows → passes (get_or rows i d) ≡ true → first_row passes says none (drop i rows) ≡ says (get_or rows i d)
-  row-hit h e = rw (drop-cons rows i d, e)
+abbrev pub spelled : List ℕ → Entry → Bool
+spelled token m = same (map to_ascii_lowercase m.0.now) (map to_ascii_lowercase token)
 
-  pub row-miss : i < length rows → passes (get_or rows i d) ≡ false → first_row passes says none (drop i rows) ≡ first_row passes says none (drop (i + 1) rows)
-  row-miss h e = rw (add-one, drop-cons rows i d, e)
+abbrev pub capitals : Row Kind → Bool
+capitals r = every is_capital r.name
 
-  pub rows_end : length rows ≤ i → first_row passes says none (drop i rows) ≡ none
-  rows_end h = rw drop_of_length-le
+pub found : (token : List ℕ) (ms : List Entry) → every capitals (map row_of ms) ≡ true → option_map (λ (m : Entry). m.1) (find (spelled token) ms) ≡ kind_in (map row_of ms) (map upper token)
+found token [] h = refl
+found token (m ∷ ms) h =
+    go (spelled token m) (same (map upper token) m.0.now) (folds m.0.now token (and_left (capitals (row_of m)) (every capitals (map row_of ms)) h)) (found token ms (and_right (capitals (row_of m)) (every capitals (map row_of ms)) h))
+  where
+    go : (t u : Bool) → u ≡ t → option_map (λ (m : Entry). m.1) (find (spelled token) ms) ≡ kind_in (map row_of ms) (map upper token) →
+        option_map (λ (m : Entry). m.1) (std-cond t (Some m) (find (spelled token) ms)) ≡ cond u (Some m.1) (kind_in (map row_of ms) (map upper token))
+    go true true q e = refl
+    go false false q e = e
+    go true false q e = cc
+    go false true q e = cc
 
--- a rule that is tested once over a table holds of each row
-module _ {A : Type 0} (rule : A → Bool) (d : A) where
-  abbrev pub every : List A → Bool
-  every [] = true
-  every (r ∷ rs) = rule r && every rs
-
-  pub every-at : (rs : List A) → every rs ≡ true → (k : ℕ) → k < length rs → rule (get_or rs k d) ≡ true
-  every-at [] e k h = absurd (not-suc-le-zero h)
-  every-at (r ∷ rs) e zero h = and_left (rule r) (every rs) e
-  every-at (r ∷ rs) e (suc k) h = every-at rs (and_right (rule r) (every rs) e) k (le_of_suc-le-suc h)
-
--- ---- the thirty rows
-
--- what Rattle has past the end of an array, where the code never looks: no bytes, 0, and the first kind
-abbrev pub no_row : Mnemonic
-no_row = record { name = []; length = 0; kind = Unknown }
-
--- the table's rule: a length is at most 5
-abbrev short : Mnemonic → Bool
-short m = leb m.length 5
-
-pub at-most-five : (k : ℕ) → k < 30 → (get_or rows k no_row).length ≤ 5
-unfolding rows
-at-most-five k h = leb-true (get_or rows k no_row).length 5 (every-at short no_row rows refl k h)
-
-pub thirty : length rows ≡ 30
-unfolding rows
-thirty = refl
+-- what is read of the row found
+pub its-kind : {A B : Type 0} (f : A → B) (o : Option (Bor A)) → option_map (λ (y : Bor A). f y.now) o ≡ option_map f (option_map (λ (y : Bor A). y.now) o)
+its-kind f None = refl
+its-kind f (Some y) = refl

@@ -1,20 +1,16 @@
 -- The thirty mnemonics, and the kind of a token: that of the row whose name the token is, in either case.
-use Rattle.std.specs.Prelude.{ℕ, ◌-◌, true, false, ◌&&◌, List, [], ◌∷◌, map, leb, length, take}
+use Rattle.std.specs.Prelude.{ℕ, ◌-◌, true, false, ◌&&◌, List, [], ◌∷◌, Option, Some, None, map, leb}
 use Rattle.base.specs.Bytes.{bytes, same}
 use Rattle.base.specs.Choice.{cond}
 use Rattle.instruction.specs.declared.ArithOp.TheVariants as four
 use Rattle.instruction.specs.declared.ArithmeticOp.TheVariants as seven
 use Rattle.instruction.specs.declared.CompareOp.TheVariants.{Eq, NotEq, Less, LessEq, Greater, GreaterEq}
-use Rattle.mnemonics.specs.Tables.{padded, first_row}
+use Rattle.mnemonics.specs.Tables.{Row, row, first_row}
 use Rattle.mnemonics.specs.declared.Kind.{Kind}
-use Rattle.mnemonics.specs.declared.Kind.TheVariants.{Unknown, Dbg, Mov, MovShift, Copy, Arith, ArithRegReg, Transfer, Jump, Compare, Ret, Call}
-use Rattle.mnemonics.specs.declared.Mnemonic.{Mnemonic}
+use Rattle.mnemonics.specs.declared.Kind.TheVariants.{Dbg, Mov, MovShift, Copy, Arith, ArithRegReg, Transfer, Jump, Compare, Ret, Call}
+use denote.Ref.{Bor}
 
--- the name padded with zeros to five bytes, its length, the kind
-abbrev pub row : List ℕ → Kind → Mnemonic
-row name k = record { name = padded name; length = length name; kind = k }
-
-unfoldable pub rows : List Mnemonic
+unfoldable pub rows : List (Row Kind)
 rows =
     row (bytes "DBG") Dbg
     ∷ row (bytes "MOV") Mov
@@ -48,17 +44,17 @@ rows =
     ∷ row (bytes "CALL") Call
     ∷ []
 
--- the name with its padding taken off
-abbrev pub name_of : Mnemonic → List ℕ
-name_of m = take m.length m.name
+-- a row of the code's table, whose name it borrows
+abbrev pub row_of : Bor (List ℕ) × Kind → Row Kind
+row_of m = row m.0.now m.1
 
 -- a letter in upper case; any other byte as it is
 unfoldable pub upper : ℕ → ℕ
 upper b = cond (leb 97 b && leb b 122) (b - 32) b
 
--- the kind of the first row with this name
-abbrev pub kind_in : List Mnemonic → List ℕ → Kind
-kind_in ms name = first_row (λ (m : Mnemonic). same name (name_of m)) (λ (m : Mnemonic). m.kind) Unknown ms
+-- the kind of the first row with this name, if there is one
+abbrev pub kind_in : List (Row Kind) → List ℕ → Option Kind
+kind_in rs name = first_row (λ (r : Row Kind). same name r.name) (λ (r : Row Kind). Some r.value) None rs
 
-unfoldable pub kind_of : List ℕ → Kind
+unfoldable pub kind_of : List ℕ → Option Kind
 kind_of token = kind_in rows (map upper token)

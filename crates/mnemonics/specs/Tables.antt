@@ -1,10 +1,14 @@
 -- A table of names, looked through from its first row on.
-use Rattle.std.specs.Prelude.{ℕ, ◌-◌, Bool, List, [], ◌∷◌, ◌++◌, length, replicate}
+use Rattle.std.specs.Prelude.{ℕ, Bool, List, [], ◌∷◌}
 use Rattle.base.specs.Choice.{cond}
 
--- a name with zeros after it, five bytes in all
-abbrev pub padded : List ℕ → List ℕ
-padded name = name ++ replicate (5 - length name) 0
+-- a row: a name, and what it names
+pub record Row (A : Type 0) : Type 0 where
+  pub name : List ℕ
+  pub value : A
+
+abbrev pub row : {A : Type 0} → List ℕ → A → Row A
+row n v = record { name = n; value = v }
 
 -- what the first row says that passes a test; or what is said where none does
 abbrev pub first_row : {A B : Type 0} → (A → Bool) → (A → B) → B → List A → B

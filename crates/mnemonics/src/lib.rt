@@ -10,8 +10,6 @@ pub use spelling::kind_of;
 // How the operands of a mnemonic are read: which of the parsers, and what it is told.
 #[derive(Clone, Copy)]
 pub enum Kind {
-    // no mnemonic; it is the first because it is what stands past the end of a table
-    Unknown,
     Dbg,
     Mov,
     // left (else right)
@@ -26,12 +24,4 @@ pub enum Kind {
     Compare(CompareOp),
     Ret,
     Call,
-}
-
-// A row of the table: the name in upper case, with zeros after its length.
-#[derive(Clone, Copy)]
-pub struct Mnemonic {
-    pub name: [u8; 5],
-    pub length: usize,
-    pub kind: Kind,
 }

@@ -1,48 +1,25 @@
--- What is found from row i on is what is found in all of the table. Assumes nothing.
-use Prim.Native.Nat.{ℕ, ◌<◌}
-use mathlib.Core.Path.{◌≡◌, ◌∙◌, refl, sym, ap}
-use mathlib.Core.Bool.{Bool, true, false}
-use mathlib.Core.List.{List, map}
-use native.Mathlib.Omega.{arith}
-use lib.ListN.{get_or}
-use Rattle.base.specs.Bytes.{same}
+-- The first row that the token spells is the definition's, and its kind is read. Assumes nothing.
+use Rattle.std.proofs.Common.{rules, ◌≡◌, ◌∙◌, true, List, Bor, refl, ap, map}
+use Rattle.std.specs.Char.{to_ascii_lowercase}
+use Rattle.std.specs.Option.{option_map}
+use Rattle.std.proofs.lemmas.Iterator.Search.{find_from_yields_List}
+use Rattle.std.proofs.lemmas.Iterator.{YieldsList-from_slice}
+use Rattle.mnemonics.specs.Tables.{Row}
+use Rattle.mnemonics.specs.Mnemonics.{rows, upper, kind_in, kind_of}
 use Rattle.mnemonics.specs.declared.Kind.{Kind}
-use Rattle.mnemonics.specs.declared.Kind.TheVariants.{Unknown}
-use Rattle.mnemonics.specs.declared.Mnemonic.{Mnemonic}
-use Rattle.mnemonics.specs.Mnemonics.{rows, name_of, upper, kind_of}
-use Rattle.mnemonics.proofs.Scans.{no_row, row-hit, row-miss, rows_end, at-most-five, thirty}
-use borrow.Author.Rules.{rules}
+use Rattle.mnemonics.proofs.Scans.{Entry, every, capitals, spelled, found, its-kind, same_is}
 use Rattle.mnemonics.proofs.spelling.kind_of.Goals as goal
 
-abbrev called : List ℕ → Mnemonic → Bool
-called name m = same name (name_of m)
-
-abbrev kind : Mnemonic → Kind
-kind m = m.kind
-
-pub loop-i-init : goal.loop-i-init
-unfolding kind_of
-loop-i-init c = (search rules, refl)
-
-pub spells-requires : goal.spells-requires
-spells-requires c = let b : c.loop-i.i < 30 = search rules in
-    rw c.table-t.ensures (at-most-five c.loop-i.i b)
-
-pub returns-then-spells : goal.returns-then-spells
-returns-then-spells c = let name = map upper c.args.token.now in
-    let i = c.loop-i.i in
-    let q = c.table-t.ensures in
-    let e : same name (name_of (get_or rows i no_row)) ≡ true =
-    ap (λ (t : List Mnemonic). same name (name_of (get_or t i no_row))) (sym q) ∙ sym c.spells.ensures ∙ c.if-spells.true in
-    ap (λ (t : List Mnemonic). (get_or t i no_row).kind) q ∙ sym (row-hit (called name) kind Unknown rows no_row i (omega (arith, thirty)) e) ∙ c.loop-i.invariant.1
-
-pub loop-i-preserved : goal.loop-i-preserved
-loop-i-preserved c = let name = map upper c.args.token.now in
-    let i = c.loop-i.i in
-    let q = c.table-t.ensures in
-    let e : same name (name_of (get_or rows i no_row)) ≡ false =
-    ap (λ (t : List Mnemonic). same name (name_of (get_or t i no_row))) (sym q) ∙ sym c.spells.ensures ∙ c.if-spells.false in
-    (search rules, sym (row-miss (called name) kind Unknown rows no_row i (omega (arith, thirty)) e) ∙ c.loop-i.invariant.1)
+every-capital : every capitals rows ≡ true
+unfolding rows
+every-capital = refl
 
 pub returns : goal.returns
-returns c = sym (rows_end (called (map upper c.args.token.now)) kind Unknown rows no_row c.loop-i.i (omega (arith, thirty))) ∙ c.loop-i.invariant.1
+unfolding kind_of
+returns c =
+    let token = c.args.token.now in
+    let table = c.table.result.now in
+    let first = find_from_yields_List (spelled token) _ _ c.find.result c.find.ensures.ran (YieldsList-from_slice table cc) (λ x b q h. (search rules, same_is b (map to_ascii_lowercase x.now.0.now) (map to_ascii_lowercase token) (λ e. search rules) (λ e. search rules))) in
+    let read : c.map.result ≡ option_map (λ (y : Bor Entry). y.now.1) c.find.result = search rules in
+    read ∙ its-kind (λ (m : Entry). m.1) c.find.result ∙ ap (option_map (λ (m : Entry). m.1)) first ∙
+    found token table (ap (every capitals) c.table.ensures ∙ every-capital) ∙ ap (λ (rs : List (Row Kind)). kind_in rs (map upper token)) c.table.ensures
