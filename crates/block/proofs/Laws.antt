@@ -20,8 +20,13 @@ use Rattle.machine.proofs.StateLaws.{valid-tables}
 use Rattle.journal.specs.States.{state, valid}
 use Rattle.journal.specs.declared.State.{State}
 use Rattle.journal.proofs.StateLaws.{valid-machine}
+use Rattle.map.specs.Entries.{region, device}
+use Rattle.map.specs.declared.Region.{Region}
+use Rattle.map.specs.declared.Device.{Device}
+use Rattle.block.specs.Entries.{entry_words, entries_from, Pairs}
 use Rattle.block.specs.Block.{region_words, device_words, flag, packed, regions_from, devices_from, unpacked, is_block}
-use Rattle.block.proofs.Tables.{Entries, Table, region_table, device_table, table-length, table-count, table-shift, table-back, table-words}
+use Rattle.block.specs.Pairs.{region_pairs, device_pairs}
+use Rattle.block.proofs.Tables.{table-length, table-count, table-shift, table-back, table-words}
 
 -- a state whose three arrays have eight entries, as the code's have
 pub record Shaped (s : State) : Type 0 where
@@ -35,10 +40,10 @@ module _ (s : State) (e : Shaped s) where
   length-registers = length-bytes s.machine.registers.value ∙ ap (λ (k : ℕ). 2 * k) e.registers
 
   pub length-regions : length (bytes_of (region_words s.machine.map.region)) ≡ 32
-  length-regions = table-length region_table s.machine.map.region e.tables.regions
+  length-regions = table-length (λ (r : Region). r.start) (λ (r : Region). r.len) s.machine.map.region e.tables.regions
 
   pub length-devices : length (bytes_of (device_words s.machine.map.device)) ≡ 32
-  length-devices = table-length device_table s.machine.map.device e.tables.devices
+  length-devices = table-length (λ (d : Device). d.start) (λ (d : Device). d.end) s.machine.map.device e.tables.devices
 
   pub length-packed : length (packed s) ≡ 87
   unfolding packed
@@ -74,8 +79,8 @@ parted g x y z =
 unpacked-parted : (b : List ℕ) → unpacked b ≡ parted b (drop 16 b) (drop 50 b) (drop 83 b)
 unfolding unpacked
 unpacked-parted b =
-    let r : regions_from 8 (drop 18 b) 0 ≡ regions_from 8 b 18 = table-shift region_table 8 18 0 b in
-    let d : devices_from 8 (drop 51 b) 0 ≡ devices_from 8 b 51 = table-shift device_table 8 51 0 b in
+    let r : regions_from 8 (drop 18 b) 0 ≡ regions_from 8 b 18 = table-shift region 8 18 0 b in
+    let d : devices_from 8 (drop 51 b) 0 ≡ devices_from 8 b 51 = table-shift device 8 51 0 b in
     simp (get_or-drop, drop-drop, r, d)
 
 -- ---- a state's block, unpacked
@@ -127,10 +132,10 @@ module _ (s : State) (e : Shaped s) where
   registers-in = ap (λ (n : ℕ). words_from n (packed s)) (sym e.registers) ∙ rw packed-flat (words_back s.machine.registers.value from-debug)
 
   regions-in : regions_from 8 (regions ++ from-devices) 0 ≡ s.machine.map.region
-  regions-in = ap (λ (n : ℕ). regions_from n (regions ++ from-devices) 0) (sym e.tables.regions) ∙ table-back region_table s.machine.map.region from-devices
+  regions-in = ap (λ (n : ℕ). regions_from n (regions ++ from-devices) 0) (sym e.tables.regions) ∙ table-back region_pairs s.machine.map.region from-devices
 
   devices-in : devices_from 8 (devices ++ last) 0 ≡ s.machine.map.device
-  devices-in = ap (λ (n : ℕ). devices_from n (devices ++ last) 0) (sym e.tables.devices) ∙ table-back device_table s.machine.map.device last
+  devices-in = ap (λ (n : ℕ). devices_from n (devices ++ last) 0) (sym e.tables.devices) ∙ table-back device_pairs s.machine.map.device last
 
   pub unpack-pack : s.machine.map.regions < 256 → s.machine.map.devices < 256 → unpacked (packed s) ≡ s
   unpack-pack h k =
@@ -171,7 +176,7 @@ pub unpacked-shaped : (b : List ℕ) → Shaped (unpacked b)
 unfolding unpacked
 unpacked-shaped b = record {
   registers = length-words 8 b;
-  tables = record { regions = table-count region_table 8 18 b; devices = table-count device_table 8 51 b };
+  tables = record { regions = table-count region 8 18 b; devices = table-count device 8 51 b };
 }
 
 -- ---- a block's state, packed
@@ -194,17 +199,18 @@ module _ (b : List ℕ) (h : is_block b ≡ true) (t : are_bytes b ≡ true) whe
   words-at : (n i : ℕ) → i + 2 * n ≤ 87 → bytes_of (words_from n (drop i b)) ≡ take (2 * n) (drop i b)
   words-at n i g = bytes-front n (drop i b) (omega (arith, length-drop i b, block-length b h)) (are-rest i b t)
 
-  table_at : {E : Type 0} {d : Entries E} → Table d → (i : ℕ) → i + 32 ≤ 87 → bytes_of (d.words (d.reads 8 b i)) ≡ take 32 (drop i b)
-  table_at {E} {d} k i g =
+  table_at : {E : Type 0} {one two : E → ℕ} {of : ℕ → ℕ → E} → Pairs one two of → (i : ℕ) → i + 32 ≤ 87
+      → bytes_of (entry_words one two (entries_from of 8 b i)) ≡ take 32 (drop i b)
+  table_at {E} {one} {two} {of} t i g =
       let z : i + 0 ≡ i = omega arith in
-      let f : d.reads 8 (drop i b) 0 ≡ d.reads 8 b i = table-shift k 8 i 0 b ∙ ap (d.reads 8 b) z in
-      ap (λ (l : List E). bytes_of (d.words l)) (sym f) ∙ ap bytes_of (table-words k 8 (drop i b)) ∙ words-at 16 i g
+      let f : entries_from of 8 (drop i b) 0 ≡ entries_from of 8 b i = table-shift of 8 i 0 b ∙ ap (entries_from of 8 b) z in
+      ap (λ (l : List E). bytes_of (entry_words one two l)) (sym f) ∙ ap bytes_of (table-words t 8 (drop i b)) ∙ words-at 16 i g
 
   regions-at : bytes_of (region_words (regions_from 8 b 18)) ≡ take 32 (drop 18 b)
-  regions-at = table_at region_table 18 (omega arith)
+  regions-at = table_at region_pairs 18 (omega arith)
 
   devices-at : bytes_of (device_words (devices_from 8 b 51)) ≡ take 32 (drop 51 b)
-  devices-at = table_at device_table 51 (omega arith)
+  devices-at = table_at device_pairs 51 (omega arith)
 
   last-at : bytes_of (word_at b 83 ∷ word_at b 85 ∷ []) ≡ take 4 (drop 83 b)
   last-at =

@@ -9,7 +9,7 @@
 --     51      32   eight devices: start, end
 --     83       2   next
 --     85       2   held
-use Rattle.std.specs.Prelude.{ℕ, zero, suc, ◌+◌, Bool, ◌&&◌, List, [], ◌∷◌, ◌++◌, eqb, leb, length, get_or}
+use Rattle.std.specs.Prelude.{ℕ, Bool, ◌&&◌, List, [], ◌∷◌, ◌++◌, eqb, leb, length, get_or}
 use Rattle.base.specs.Choice.{cond}
 use Rattle.base.specs.Words.{low_of}
 use Rattle.wordbytes.specs.Words.{bytes_of, word_at, words_from}
@@ -18,18 +18,17 @@ use Rattle.map.specs.declared.Region.{Region}
 use Rattle.map.specs.declared.Device.{Device}
 use Rattle.map.specs.declared.Map.{Map}
 use Rattle.machine.specs.declared.Machine.{Machine}
+use Rattle.block.specs.Entries.{entry_words, entries_from}
 use Rattle.journal.specs.States.{state}
 use Rattle.journal.specs.declared.State.{State}
 
 -- ---- from a state
 
-unfoldable pub region_words : List Region → List ℕ
-region_words [] = []
-region_words (r ∷ rest) = r.start ∷ r.len ∷ region_words rest
+abbrev pub region_words : List Region → List ℕ
+region_words = entry_words (λ (r : Region). r.start) (λ (r : Region). r.len)
 
-unfoldable pub device_words : List Device → List ℕ
-device_words [] = []
-device_words (d ∷ rest) = d.start ∷ d.end ∷ device_words rest
+abbrev pub device_words : List Device → List ℕ
+device_words = entry_words (λ (d : Device). d.start) (λ (d : Device). d.end)
 
 abbrev pub flag : Bool → ℕ
 flag debug = cond debug 1 0
@@ -45,14 +44,11 @@ packed s =
 
 -- ---- and back
 
--- n entries of two words each, from byte i on
-unfoldable pub regions_from : ℕ → List ℕ → ℕ → List Region
-regions_from zero b i = []
-regions_from (suc n) b i = region (word_at b i) (word_at b (i + 2)) ∷ regions_from n b (i + 4)
+abbrev pub regions_from : ℕ → List ℕ → ℕ → List Region
+regions_from = entries_from region
 
-unfoldable pub devices_from : ℕ → List ℕ → ℕ → List Device
-devices_from zero b i = []
-devices_from (suc n) b i = device (word_at b i) (word_at b (i + 2)) ∷ devices_from n b (i + 4)
+abbrev pub devices_from : ℕ → List ℕ → ℕ → List Device
+devices_from = entries_from device
 
 abbrev pub map_in : List ℕ → Map
 map_in b =

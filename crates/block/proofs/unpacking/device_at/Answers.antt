@@ -1,5 +1,0 @@
--- An entry is two words. Assumes nothing.
-use Rattle.block.proofs.unpacking.device_at.Goals as goal
-
-pub returns : goal.returns
-returns c = rw (c.word_at.ensures, c.word_at-2.ensures)
