@@ -1,5 +1,4 @@
 pub mod Scans
-pub mod DeviceScans
 pub mod DeviceLaws
 pub mod PlaceLaws
 pub mod SoundLaws

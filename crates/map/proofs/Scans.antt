@@ -1,86 +1,40 @@
--- One turn of a loop over the first k entries of a table of eight, at entry i: a hit, a miss, or no such entry. Assumes nothing.
-use mathlib.Core.Path.{◌≡◌, refl, sym, ◌∙◌}
-use mathlib.Core.Bool.{Bool, true, false, and-false}
-use mathlib.Core.List.{List, [], ◌∷◌, map}
-use Prim.Native.Nat.{ℕ, ◌+◌, ◌<◌, ◌≤◌, min}
-use native.Mathlib.Numerals.{add-one}
-use native.Mathlib.Omega.{arith}
-use borrow.Author.Tests.{leb-true, leb-false}
-use lib.Dec.{leb}
-use lib.ListN.{length, get_or, take, drop, drop_of_length-le, length-take, length-map}
-use lib.Seq.{drop-cons, get_or-take}
+-- One turn of a loop over a table's entries, at entry i, and its end. Assumes nothing.
+use mathlib.Core.Path.{◌≡◌, sym, ap, ◌∙◌}
+use mathlib.Core.Bool.{Bool, true, not, ◌&&◌}
+use mathlib.Core.List.{List, ◌∷◌}
+use Prim.Native.Nat.{ℕ, ◌+◌, ◌-◌, ◌<◌, ◌≤◌}
+use lib.ListN.{length, get_or, drop}
+use Rattle.std.proofs.lemmas.List.{at_drop_more, at_drop_all}
+use Rattle.base.specs.Choice.{cond}
 use Rattle.map.specs.Tables.{any, sound}
+use Rattle.map.specs.Devices.{device_covers, device_size, total}
+use Rattle.map.specs.Places.{in_bank, in_linear, place_from}
+use Rattle.map.specs.declared.Device.{Device}
 
-module _ {A : Type 0} where
-  -- the length of an array's list, from what `c.good` has of it
-  pub mapped : {B : Type 0} (l : List A) (f : A → B) (n : ℕ) → length (map f l) ≡ n → length l ≡ n
-  mapped l f n e = sym (length-map l f) ∙ e
+module _ {A : Type 0} (right : A → Bool) (meets : A → A → Bool) (l : List A) (i : ℕ) where
+  pub sound_turn : (x : A) → i < length l → x ≡ get_or l i x → sound right meets (drop i l) ≡ (right x && not (any (meets x) (drop (i + 1) l)) && sound right meets (drop (i + 1) l))
+  unfolding sound
+  sound_turn x h e = at_drop_more (sound right meets) l i x h ∙ ap (λ (y : A). sound right meets (y ∷ drop (i + 1) l)) (sym e)
 
-  module _ (l : List A) (k i : ℕ) (e : length l ≡ 8) where
-    -- entry i of the first k, and the entries after it
-    pub used-cons : (d : A) → i < min k 8 → drop i (take k l) ≡ get_or l i d ∷ drop (i + 1) (take k l)
-    used-cons d h =
-        let g : i < length (take k l) = rw (length-take, e) h in
-        let f : i < k = omega arith in
-        rw (drop-cons (take k l) i d, get_or-take k l i d f, add-one)
+  pub sound_end : length l ≤ i → sound right meets (drop i l) ≡ true
+  unfolding sound
+  sound_end h = at_drop_all (sound right meets) l i h
 
-    pub used-end : min k 8 ≤ i → drop i (take k l) ≡ []
-    used-end h =
-        let g : length (take k l) ≤ i = rw (length-take, e) h in
-        drop_of_length-le (take k l) g
+module _ (l : List Device) (i : ℕ) where
+  pub total_turn : (d : Device) → i < length l → total (drop i l) ≡ device_size (get_or l i d) + total (drop (i + 1) l)
+  unfolding total
+  total_turn d h = at_drop_more total l i d h
 
-    module _ (test : A → Bool) where
-      pub any-hit : (d : A) → i < min k 8 → test (get_or l i d) ≡ true → any test (drop i (take k l)) ≡ true
-      unfolding any
-      any-hit d h f = rw (used-cons d h, f)
+  pub total_end : length l ≤ i → total (drop i l) ≡ 0
+  unfolding total
+  total_end h = at_drop_all total l i h
 
-      pub any-miss : (d : A) → i < min k 8 → test (get_or l i d) ≡ false → any test (drop i (take k l)) ≡ any test (drop (i + 1) (take k l))
-      unfolding any
-      any-miss d h f = rw (used-cons d h, f)
+  module _ (base mem dev a : ℕ) where
+    pub place_turn : (d : Device) → i < length l
+        → place_from (drop i l) i base mem dev a ≡ cond (device_covers a (get_or l i d)) (in_bank i (a - (get_or l i d).start) base dev) (place_from (drop (i + 1) l) (i + 1) (base + device_size (get_or l i d)) mem dev a)
+    unfolding place_from
+    place_turn d h = at_drop_more (λ (k : List Device). place_from k i base mem dev a) l i d h
 
-      pub any-end : min k 8 ≤ i → any test (drop i (take k l)) ≡ false
-      unfolding any
-      any-end h = rw (used-end h)
-
-    module _ (right : A → Bool) (meets : A → A → Bool) where
-      pub sound-wrong : (d : A) → i < min k 8 → right (get_or l i d) ≡ false → sound right meets (drop i (take k l)) ≡ false
-      unfolding sound
-      sound-wrong d h f = rw (used-cons d h, f)
-
-      pub sound-met : (d : A) → i < min k 8 → any (meets (get_or l i d)) (drop (i + 1) (take k l)) ≡ true → sound right meets (drop i (take k l)) ≡ false
-      unfolding sound
-      sound-met d h f = rw (used-cons d h, f, and-false)
-
-      pub sound-next : (d : A) → i < min k 8 → right (get_or l i d) ≡ true → any (meets (get_or l i d)) (drop (i + 1) (take k l)) ≡ false → sound right meets (drop i (take k l)) ≡ sound right meets (drop (i + 1) (take k l))
-      unfolding sound
-      sound-next d h f g = rw (used-cons d h, f, g)
-
-      pub sound-end : min k 8 ≤ i → sound right meets (drop i (take k l)) ≡ true
-      unfolding sound
-      sound-end h = rw (used-end h)
-
-  -- the same over the entries that are not in use
-  module _ (l : List A) (i : ℕ) (e : length l ≡ 8) where
-    pub spare-start : (k : ℕ) → drop k l ≡ drop (min k 8) l
-    spare-start k = go (leb k 8) refl
-      where
-        go : (t : Bool) → leb k 8 ≡ t → drop k l ≡ drop (min k 8) l
-        go true h = let m : min k 8 ≡ k = omega (arith, leb-true k 8 h) in rw m
-        go false h =
-            let m : min k 8 ≡ 8 = omega (arith, leb-false k 8 h) in
-            let f : length l ≤ k = rw e (omega (arith, leb-false k 8 h)) in
-            let g : length l ≤ 8 = rw e (omega arith) in
-            rw (m, drop_of_length-le l f, drop_of_length-le l g)
-
-    module _ (test : A → Bool) where
-      pub spare-hit : (d : A) → i < 8 → test (get_or l i d) ≡ true → any test (drop i l) ≡ true
-      unfolding any
-      spare-hit d h f = let g : i < length l = rw e h in rw (drop-cons l i d, f)
-
-      pub spare-miss : (d : A) → i < 8 → test (get_or l i d) ≡ false → any test (drop i l) ≡ any test (drop (i + 1) l)
-      unfolding any
-      spare-miss d h f = let g : i < length l = rw e h in rw (add-one, drop-cons l i d, f)
-
-      pub spare-end : 8 ≤ i → any test (drop i l) ≡ false
-      unfolding any
-      spare-end h = let g : length l ≤ i = rw e h in rw (drop_of_length-le l g)
+    pub place_end : length l ≤ i → place_from (drop i l) i base mem dev a ≡ in_linear mem a
+    unfolding place_from
+    place_end h = at_drop_all (λ (k : List Device). place_from k i base mem dev a) l i h

@@ -3,6 +3,7 @@
 #![tactic(auto)]
 
 mod devices;
+mod entries;
 mod places;
 mod regions;
 mod tables;

@@ -4,24 +4,20 @@ ghost use Rattle.map.specs.Tables.{any};
 ghost use Rattle.map.specs.Devices.{covers_either, used_devices};
 ghost use Rattle.map.specs.Places.{place, in_bank, in_linear, target, somewhere, linear_word};
 
-use crate::devices::{covers_either, device_covers, device_size};
-use crate::regions::{is_protected, used};
+use crate::regions::is_protected;
 use crate::{Map, Place};
 
+#[tactic(auto, using(crate::proofs::Scans::place_turn, crate::proofs::Scans::place_end), unfolding(crate::specs::Places::place))]
 // Where the byte of address a is, with mem bytes of linear memory and dev bytes in the device buffer.
 pub fn place_of(m: Map, mem: usize, dev: usize, a: u16) -> Place
     ensures { result ≡ place m mem dev a }
 {
-    let n = used(m.devices);
-    let mut i: usize = 0;
     let mut base: usize = 0;
-    while i < n {
-        let d = m.device[i];
-        if device_covers(d, a) {
-            return in_bank(i, a - d.start, base, dev);
+    for (number, d) in m.used_devices().iter().enumerate() {
+        if d.covers(a) {
+            return in_bank(number, a - d.start, base, dev);
         }
-        base += device_size(d);
-        i += 1;
+        base += d.size();
     }
     in_linear(mem, a)
 }
@@ -100,15 +96,7 @@ fn device_within(m: Map, a: u16, b: u16) -> bool
     requires { b ≡ a + 1 }
     ensures { result ≡ any (covers_either a b) (used_devices m) }
 {
-    let n = used(m.devices);
-    let mut i: usize = 0;
-    while i < n {
-        if covers_either(m.device[i], a, b) {
-            return true;
-        }
-        i += 1;
-    }
-    false
+    m.used_devices().iter().any(|d| d.covers_either(a, b))
 }
 
 // Whether both bytes of the word at a are linear: they are there, and no device covers one of them.

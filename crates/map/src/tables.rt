@@ -1,11 +1,11 @@
 // Both tables: when they are valid, and how an entry is added.
 ghost use Rattle.std.specs.Prelude.{◌≡◌};
 ghost use Rattle.base.specs.Numbers.{answer_number};
-ghost use Rattle.map.specs.Valid.{valid_regions, valid_devices, valid};
+ghost use Rattle.map.specs.Valid.{valid};
 ghost use Rattle.map.specs.Entries.{empty_map, with_region, region_number, region_map, protect_number, protect_map, with_device, device_number, device_map, register_number, register_map};
 
-use crate::devices::{device_bytes, device_meets, device_size, devices_sound, spare_device_set};
-use crate::regions::{region_meets, regions_sound, spare_region_set};
+use crate::devices::device_bytes;
+use crate::entries::{is_valid, meets};
 use crate::{Device, Map, Region};
 use base::Refusal;
 
@@ -23,44 +23,12 @@ pub fn empty() -> Map
     }
 }
 
-#[tactic(auto, unfolding(crate::specs::Valid::valid_regions))]
-fn valid_regions(m: Map) -> bool
-    ensures { result ≡ valid_regions m }
-{
-    if 8 < m.regions {
-        return false;
-    }
-    if spare_region_set(m) {
-        return false;
-    }
-    regions_sound(m)
-}
-
-#[tactic(auto, unfolding(crate::specs::Valid::valid_devices))]
-fn valid_devices(m: Map) -> bool
-    ensures { result ≡ valid_devices m }
-{
-    if 8 < m.devices {
-        return false;
-    }
-    if spare_device_set(m) {
-        return false;
-    }
-    devices_sound(m)
-}
-
 // Whether both tables are valid, and the device buffer has room for the devices.
-#[tactic(auto, unfolding(crate::specs::Valid::valid))]
+#[tactic(auto, unfolding(crate::specs::Valid::valid, crate::specs::Valid::valid_regions, crate::specs::Valid::valid_devices, crate::specs::Regions::used_regions, crate::specs::Regions::spare_regions, crate::specs::Devices::used_devices, crate::specs::Devices::spare_devices))]
 pub fn valid(m: Map, dev: &[u8]) -> bool
     ensures { result ≡ valid m dev.now }
 {
-    if !valid_regions(m) {
-        return false;
-    }
-    if !valid_devices(m) {
-        return false;
-    }
-    device_bytes(m) <= dev.len()
+    is_valid(m.regions, &m.region) && is_valid(m.devices, &m.device) && device_bytes(m) <= dev.len()
 }
 
 // The region in the next entry, where it fits: 12, 13, 14. The tables are taken as they are.
@@ -72,7 +40,7 @@ pub fn add_region(m: &mut Map, r: Region) -> Result<(), Refusal>
     if 65535 - r.start < r.len {
         return Err(Refusal::RangeOverflow);
     }
-    if region_meets(*m, 0, r) {
+    if meets(r, m.used_regions()) {
         return Err(Refusal::Overlap);
     }
     let n = m.regions as usize;
@@ -102,14 +70,14 @@ fn add_device(m: &mut Map, room: usize, d: Device) -> Result<(), Refusal>
     ensures answer_value { answer_number result ≡ device_number m.old room d }
     ensures map_value { m.new ≡ device_map m.old room d }
 {
-    if device_meets(*m, 0, d) {
+    if meets(d, m.used_devices()) {
         return Err(Refusal::Overlap);
     }
     let n = m.devices as usize;
     if 8 <= n {
         return Err(Refusal::TableFull);
     }
-    if room < device_bytes(*m) + device_size(d) {
+    if room < device_bytes(*m) + d.size() {
         return Err(Refusal::NoDeviceRoom);
     }
     m.device[n] = d;

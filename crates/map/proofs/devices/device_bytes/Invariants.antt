@@ -1,11 +1,7 @@
--- The sum so far and the sizes from entry i on are the whole. Assumes nothing.
-use Rattle.std.proofs.Common.{◌≡◌, ◌+◌, ◌*◌, ◌-◌, ◌≤◌, drop}
-use Rattle.map.specs.Devices.{used_devices, total}
+-- The sum so far and the sizes of the devices left are the whole. Assumes nothing.
+use Rattle.std.proofs.Common.{◌≡◌, ◌+◌, ◌*◌, ◌≤◌, drop}
+use Rattle.map.specs.Devices.{total}
 use Rattle.map.proofs.devices.device_bytes.Given as goal
 
-abbrev pub invariant-loop-i : goal.invariant-loop-i
-invariant-loop-i l =
-    (l.i ≤ 8) × (l.sum ≤ 65535 * l.i) × (total (used_devices l.m) ≡ l.sum + total (drop l.i (used_devices l.m)))
-
-abbrev pub decreases-loop-i : goal.decreases-loop-i
-decreases-loop-i l = l.n - l.i
+abbrev pub invariant-loop-d : goal.invariant-loop-d
+invariant-loop-d l = (l.sum ≤ 65535 * l.d-index) × (total l.d-items ≡ l.sum + total (drop l.d-index l.d-items))
