@@ -1,24 +1,13 @@
--- One turn of a loop over a table's entries, at entry i, and its end. Assumes nothing.
-use mathlib.Core.Path.{◌≡◌, sym, ap, ◌∙◌}
-use mathlib.Core.Bool.{Bool, true, not, ◌&&◌}
-use mathlib.Core.List.{List, ◌∷◌}
+-- One turn of a loop over the devices in use, at device i, and its end. Assumes nothing.
+use mathlib.Core.Path.{◌≡◌}
+use mathlib.Core.List.{List}
 use Prim.Native.Nat.{ℕ, ◌+◌, ◌-◌, ◌<◌, ◌≤◌}
 use lib.ListN.{length, get_or, drop}
 use Rattle.std.proofs.lemmas.List.{at_drop_more, at_drop_all}
 use Rattle.base.specs.Choice.{cond}
-use Rattle.map.specs.Tables.{any, sound}
 use Rattle.map.specs.Devices.{device_covers, device_size, total}
 use Rattle.map.specs.Places.{in_bank, in_linear, place_from}
 use Rattle.map.specs.declared.Device.{Device}
-
-module _ {A : Type 0} (right : A → Bool) (meets : A → A → Bool) (l : List A) (i : ℕ) where
-  pub sound_turn : (x : A) → i < length l → x ≡ get_or l i x → sound right meets (drop i l) ≡ (right x && not (any (meets x) (drop (i + 1) l)) && sound right meets (drop (i + 1) l))
-  unfolding sound
-  sound_turn x h e = at_drop_more (sound right meets) l i x h ∙ ap (λ (y : A). sound right meets (y ∷ drop (i + 1) l)) (sym e)
-
-  pub sound_end : length l ≤ i → sound right meets (drop i l) ≡ true
-  unfolding sound
-  sound_end h = at_drop_all (sound right meets) l i h
 
 module _ (l : List Device) (i : ℕ) where
   pub total_turn : (d : Device) → i < length l → total (drop i l) ≡ device_size (get_or l i d) + total (drop (i + 1) l)

@@ -56,39 +56,17 @@ pub fn target_of(m: Map, mem: usize, dev: usize, a: u16) -> Place
     ensures { result ≡ target m mem dev a }
 {
     match place_of(m, mem, dev, a) {
-        Place::Linear(i) => {
-            if is_protected(m, a) {
-                Place::Nowhere
-            } else {
-                Place::Linear(i)
-            }
-        }
-        Place::Bank {
-            number,
-            offset,
-            index,
-        } => Place::Bank {
-            number,
-            offset,
-            index,
-        },
-        Place::Nowhere => Place::Nowhere,
+        Place::Linear(_) if is_protected(m, a) => Place::Nowhere,
+        place => place,
     }
 }
 
+// Whether there is a byte at a place.
 #[tactic(auto, unfolding(crate::specs::Places::somewhere))]
 pub fn is_somewhere(p: Place) -> bool
     ensures { result ≡ somewhere p }
 {
-    match p {
-        Place::Linear(_) => true,
-        Place::Bank {
-            number: _,
-            offset: _,
-            index: _,
-        } => true,
-        Place::Nowhere => false,
-    }
+    !matches!(p, Place::Nowhere)
 }
 
 // Whether a device in use covers an address or the next one.
@@ -103,12 +81,8 @@ fn device_within(m: Map, a: u16, b: u16) -> bool
 pub fn is_linear_word(m: Map, mem: usize, a: u16) -> bool
     ensures { result ≡ linear_word m mem a }
 {
-    if a == 65535 {
-        return false;
+    match a.checked_add(1) {
+        Some(b) => (b as usize) < mem && !device_within(m, a, b),
+        None => false,
     }
-    let b = a + 1;
-    if mem <= b as usize {
-        return false;
-    }
-    !device_within(m, a, b)
 }
