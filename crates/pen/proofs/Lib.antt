@@ -1,3 +1,2 @@
 pub mod PenLaws
 pub mod NumberLaws
-pub mod TextLaws

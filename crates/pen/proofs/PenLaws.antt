@@ -2,12 +2,15 @@
 -- counts every byte, and each is stored. Assumes nothing.
 use mathlib.Core.Path.{◌≡◌, refl, ap, ◌∙◌}
 use mathlib.Core.List.{List, [], ◌∷◌, ◌++◌}
-use Prim.Native.Nat.{ℕ, ◌+◌, ◌≤◌, ◌<◌}
+use Prim.Native.Nat.{ℕ, ◌+◌, ◌≤◌, ◌<◌, min}
 use native.Mathlib.Numerals.{add-one}
 use native.Mathlib.Omega.{arith}
-use borrow.Author.Tests.{lt-ltb, le-ltb}
+use mathlib.Core.Bool.{Bool, true, false}
+use borrow.Author.Tests.{lt-ltb, ltb-true, ltb-false}
+use lib.Dec.{ltb}
 use lib.ListN.{length, drop, get_or, set, drop_of_length-le}
 use lib.Seq.{drop-cons, set_out, sets}
+use Rattle.base.specs.Choice.{cond}
 use Rattle.printer.specs.Print.{placed}
 use Rattle.printer.proofs.Laws.{placed-sets}
 use Rattle.pen.specs.Pen.{Pen, pen, pushed, wrote}
@@ -23,30 +26,24 @@ unfolding wrote
 joined [] y p = refl
 joined (b ∷ x) y p = joined x y (pushed p b)
 
--- ---- one byte
+-- ---- one byte: stored within the buffer, and counted
 
-module _ (out : List ℕ) (at b : ℕ) where
-  pub put-within : at < length out → length out ≤ 18446744073709551615 → pen (set out at b) (at + 1) ≡ wrote (pen out at) (b ∷ [])
-  unfolding wrote pushed
-  put-within h g = let f : at < 18446744073709551615 = omega arith in rw (lt-ltb at 18446744073709551615 f)
-
-  pub put-past : length out ≤ at → at < 18446744073709551615 → pen out (at + 1) ≡ wrote (pen out at) (b ∷ [])
-  unfolding wrote pushed
-  put-past h g = rw (lt-ltb at 18446744073709551615 g, set_out out at b h)
-
-  pub put_full : 18446744073709551615 ≤ at → pen out at ≡ wrote (pen out at) (b ∷ [])
-  unfolding wrote pushed
-  put_full h = rw (le-ltb at 18446744073709551615 h)
-
--- ---- a loop that writes a list byte by byte
-
-pub write-more : (p : Pen) {q : Pen} (s : List ℕ) (i : ℕ) → i < length s → q ≡ wrote p (get_or s i 0 ∷ []) → wrote p (drop i s) ≡ wrote q (drop (i + 1) s)
-unfolding wrote
-write-more p s i h e = rw (add-one, drop-cons s i 0 h, e)
-
-pub write-no-more : (p : Pen) (s : List ℕ) (i : ℕ) → length s ≤ i → wrote p (drop i s) ≡ p
-unfolding wrote
-write-no-more p s i h = rw (drop_of_length-le s h)
+pub put-once :
+    (out : List ℕ) (at b : ℕ) (after : List ℕ) (next : ℕ) → length out ≤ 18446744073709551615 → at ≤ 18446744073709551615
+    → after ≡ set out at b → next ≡ min (at + 1) 18446744073709551615 → pen after next ≡ wrote (pen out at) (b ∷ [])
+unfolding wrote pushed
+put-once out at b after next g h e f = go (ltb at 18446744073709551615) refl
+  where
+    go : (t : Bool) → ltb at 18446744073709551615 ≡ t → pen after next ≡ cond t (pen (set out at b) (at + 1)) (pen out at)
+    go true q =
+        let k = ltb-true at 18446744073709551615 q in
+        let n : next ≡ at + 1 = omega (arith, f, k) in
+        rw (e, n)
+    go false q =
+        let k = ltb-false at 18446744073709551615 q in
+        let n : next ≡ at = omega (arith, f, h, k) in
+        let s : set out at b ≡ out = set_out out at b (omega (arith, g, k)) in
+        rw (e, n, s)
 
 -- ---- the count, and the bytes
 

@@ -3,8 +3,6 @@
 -- that it stays below; every text is far shorter.
 use Rattle.std.specs.Prelude.{ℕ, ◌+◌, List, [], ◌∷◌, ltb, set}
 use Rattle.base.specs.Choice.{cond}
-use Rattle.printer.specs.declared.Printed.{Printed}
-use Rattle.printer.specs.declared.Printed.TheVariants.{Next, Refused}
 
 pub data Pen : Type 0 where
   pen : List ℕ → ℕ → Pen
@@ -15,8 +13,3 @@ pushed (pen out at) b = cond (ltb at 18446744073709551615) (pen (set out at b) (
 unfoldable pub wrote : Pen → List ℕ → Pen
 wrote p [] = p
 wrote p (b ∷ bs) = wrote (pushed p b) bs
-
--- for an inner function's contract alone: how long a text is that was printed from position 0 on
-abbrev pub size_of : Printed → ℕ
-size_of (Next n) = n
-size_of (Refused r) = 0

@@ -3,7 +3,7 @@ ghost use Rattle.std.specs.Prelude.{◌≡◌, ◌%◌};
 ghost use Rattle.pen.specs.Numbers.{hex_digit, hex, decimal};
 ghost use Rattle.pen.specs.Pen.{pen, wrote};
 
-use crate::writing::{put, put_all};
+use crate::writing::put_all;
 
 // The last digit.
 fn hex_digit(n: u32) -> u8
@@ -13,6 +13,7 @@ fn hex_digit(n: u32) -> u8
     if d < 10 { 48 + d } else { 55 + d }
 }
 
+#[tactic(auto, unfolding(crate::specs::Numbers::hex))]
 pub fn hex(out: &mut [u8], at: usize, n: u32) -> usize
     ensures { pen out.new result ≡ wrote (pen out.old at) (hex n) }
 {
@@ -25,13 +26,9 @@ pub fn hex(out: &mut [u8], at: usize, n: u32) -> usize
     put_all(out, at, &digits)
 }
 
-// The digits of the tens, then the last one.
+#[tactic(auto, unfolding(crate::specs::Numbers::decimal))]
 pub fn decimal(out: &mut [u8], at: usize, n: usize) -> usize
     ensures { pen out.new result ≡ wrote (pen out.old at) (decimal n) }
 {
-    if n < 10 {
-        return put(out, at, 48 + n as u8);
-    }
-    let p = decimal(out, at, n / 10);
-    put(out, p, 48 + (n % 10) as u8)
+    put_all(out, at, printer::decimal(n).text.as_slice())
 }

@@ -8,22 +8,17 @@ pub fn put(out: &mut [u8], at: usize, b: u8) -> usize
 {
     if at < out.len() {
         out[at] = b;
-        return at + 1;
     }
-    if at < usize::MAX {
-        return at + 1;
-    }
-    at
+    at.saturating_add(1)
 }
 
+#[tactic(auto, using(crate::proofs::PenLaws::none, crate::proofs::PenLaws::joined))]
 pub fn put_all(out: &mut [u8], at: usize, bytes: &[u8]) -> usize
     ensures { pen out.new result ≡ wrote (pen out.old at) bytes.now }
 {
     let mut p = at;
-    let mut i: usize = 0;
-    while i < bytes.len() {
-        p = put(out, p, bytes[i]);
-        i += 1;
+    for b in bytes {
+        p = put(out, p, *b);
     }
     p
 }

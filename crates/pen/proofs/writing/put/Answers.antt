@@ -1,13 +1,17 @@
--- Within the buffer the byte is stored, past its end it is counted, and at the last number nothing changes, as the definition has it. Assumes nothing.
+-- A byte past the end of the buffer leaves it as it was, as a write there does in the definition. Assumes nothing.
+use mathlib.Core.Path.{sym, ◌∙◌}
 use native.Mathlib.Omega.{arith}
-use Rattle.pen.proofs.PenLaws.{put-within, put-past, put_full}
+use lib.Seq.{set_out}
+use Rattle.pen.proofs.PenLaws.{put-once}
+use Rattle.pen.proofs.writing.put.Goals.{then-at-out, else-at-out}
 use Rattle.pen.proofs.writing.put.Goals as goal
 
-pub returns-then-at-out : goal.returns-then-at-out
-returns-then-at-out c = put-within c.args.out.now c.args.at c.args.b c.if-at-out.true (omega arith)
-
-pub returns-then-at-lt18446744073709551615 : goal.returns-then-at-lt18446744073709551615
-returns-then-at-lt18446744073709551615 c = put-past c.args.out.now c.args.at c.args.b c.if-at-out.false (omega arith)
-
 pub returns : goal.returns
-returns c = put_full c.args.out.now c.args.at c.args.b (omega arith)
+returns c =
+    let out = c.args.out.now in
+    put-once out c.args.at c.args.b c.if-at-out.out c.saturating_add.result (omega arith) (omega arith)
+    (elim c.if-at-out.branch [
+      | then-at-out w ↦ w.out-is
+      | else-at-out w ↦ w.out-is ∙ sym (set_out out c.args.at c.args.b w.if-at-out.false)
+    ])
+    c.saturating_add.ensures

@@ -1,22 +1,7 @@
--- What is left to write, from byte i on, makes the whole: a turn writes its first byte. Assumes nothing.
-use mathlib.Core.Path.{refl, sym, ◌∙◌}
-use Rattle.pen.specs.Pen.{pen}
-use Rattle.pen.proofs.PenLaws.{write-more, write-no-more}
-use borrow.Author.Rules.{rules}
+-- A turn writes the next byte. Assumes nothing.
+use Rattle.std.proofs.lemmas.List.{take_more}
+use Rattle.pen.proofs.PenLaws.{joined}
 use Rattle.pen.proofs.writing.put_all.Goals as goal
 
-pub loop-i-init : goal.loop-i-init
-loop-i-init c = (search rules, refl, refl)
-
-pub loop-i-preserved : goal.loop-i-preserved
-loop-i-preserved c = (
-  search rules,
-  c.put-p.auto.out ∙ c.loop-i.invariant.1,
-  c.loop-i.invariant.2 ∙ write-more (pen c.loop-i.out c.loop-i.p) c.args.bytes.now c.loop-i.i c.loop-i-test.true c.put-p.ensures,
-)
-
-pub shape_of-out : goal.shape_of-out
-shape_of-out c = c.loop-i.invariant.1
-
-pub returns : goal.returns
-returns c = sym (c.loop-i.invariant.2 ∙ write-no-more (pen c.loop-i.out c.loop-i.p) c.args.bytes.now c.loop-i.i c.loop-i-test.false)
+pub loop-b-preserved : goal.loop-b-preserved
+loop-b-preserved c = rw (c.put-p.ensures, c.loop-b.invariant, joined, take_more c.args.bytes.now c.loop-b.b-index 0 c.loop-b-test.true)
