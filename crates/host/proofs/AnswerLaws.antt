@@ -1,24 +1,25 @@
--- A refusal's number is not 0, so it leaves the state. Assumes nothing.
+-- The state after an entry of a valid state, by the answer of the crate below: its number is 0 where it accepts, and another where it
+-- refuses. Assumes nothing.
 use Prim.Native.Nat.{ℕ}
-use mathlib.Core.Path.{◌≡◌, sym}
+use mathlib.Core.Path.{◌≡◌, sym, ◌∙◌}
+use lib.Dec.{eqb}
 use borrow.Author.Tests.{ne_eqb}
-use native.Mathlib.Omega.{arith}
+use Rattle.base.specs.Choice.{cond}
 use Rattle.base.specs.Numbers.{number_of}
 use Rattle.base.specs.declared.refusals.Refusal.{Refusal}
-use Rattle.base.specs.declared.refusals.Answer.TheVariants.{Accepted, Refused}
-use Rattle.base.proofs.Laws.{answer-one}
+use Rattle.base.proofs.Laws.{not_accepted}
 use Rattle.machine.specs.declared.Machine.{Machine}
+use Rattle.journal.specs.States.{state}
 use Rattle.journal.specs.declared.State.{State}
 use Rattle.host.specs.Host.{settled}
 
--- a refusal's number is not 0
-never : (r : Refusal) → number_of r ≡ 0 → ⊥
-never r e =
-    let h = answer-one Accepted (Refused r) (sym e) in
-    let z : ◌≡◌ {A = ℕ} 0 1 = cc in
-    omega arith
+module _ {A : Type 0} (s : State) (f : A → Machine) (x y : A) (n k : ℕ) (same : n ≡ k) (m : Machine) (made : m ≡ f (cond (eqb n 0) x y)) where
+  -- what is accepted is there, with an empty journal
+  pub settled_ok : 0 ≡ n → state m 0 0 ≡ settled s k (f x)
+  unfolding settled
+  settled_ok h = rw (made, ← same, ← h)
 
--- a refusal leaves the state
-pub settled-refused : (s : State) (r : Refusal) (m : Machine) → settled s (number_of r) m ≡ s
-unfolding settled
-settled-refused s r m = rw (ne_eqb (number_of r) 0 (never r))
+  -- a refusal leaves the state
+  pub settled_err : f y ≡ s.machine → (r : Refusal) → number_of r ≡ n → state m s.next s.held ≡ settled s k (f x)
+  unfolding settled
+  settled_err kept r h = rw (made, ← same, ne_eqb n 0 (λ z. not_accepted r (sym (h ∙ z))), kept)

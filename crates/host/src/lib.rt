@@ -2,10 +2,10 @@
 // Each asks first whether the state is valid as a whole, and calls the crate below it.
 #![tactic(auto)]
 
-mod changes;
 mod entries;
 mod loads;
 mod reads;
+mod states;
 
 pub use entries::{protect, register_device, set_register};
 pub use loads::write_program;

@@ -6,7 +6,6 @@ ghost use Rattle.host.specs.Host.{read_out, read_out_buffer};
 
 use base::Refusal;
 use journal::State;
-use memory::ReadOut;
 
 // Reads size bytes from start on into a buffer: 1, 12, 19, then the count of bytes before the first unmapped one.
 // Bytes of the buffer past the count stay.
@@ -18,14 +17,12 @@ pub fn read_out(
     start: u16,
     size: usize,
     buffer: &mut [u8],
-) -> ReadOut
+) -> Result<usize, Refusal>
     ensures result_value { counted result ≡ read_out s (lent mem.now dev.now) journal.now start size (length buffer.old) }
     ensures buffer_after { buffer.new ≡ read_out_buffer s (lent mem.now dev.now) journal.now start size buffer.old }
 {
     if !journal::valid(s, dev, journal) {
-        return ReadOut::Refused(Refusal::BadState);
+        return Err(Refusal::BadState);
     }
-    let m = s.machine;
-    let map = m.map;
-    memory::read_out(map, mem, dev, start, size, buffer)
+    memory::read_out(s.machine.map, mem, dev, start, size, buffer)
 }
