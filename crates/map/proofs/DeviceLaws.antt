@@ -52,7 +52,7 @@ module _ (a b : ℕ) (d : Device) (n : b ≡ a + 1) where
 
 -- a device covers one of two addresses where one covers the first or one the second
 pub any-either : (a b : ℕ) (l : List Device) → any (covers_either a b) l ≡ (any (device_covers a) l || any (device_covers b) l)
-unfolding covers_either
+unfolding any covers_either
 any-either a b [] = refl
 any-either a b (d ∷ rest) =
     rw (any-either a b rest) (or-pairs (device_covers a d) (device_covers b d) (any (device_covers a) rest) (any (device_covers b) rest))

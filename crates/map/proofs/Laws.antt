@@ -191,7 +191,7 @@ valid-length m dev dev₁ e = rw e
 
 -- no region and no device is valid over any buffer
 pub empty-valid : (dev : List ℕ) → valid empty_map dev ≡ true
-unfolding valid valid_regions valid_devices used_regions spare_regions used_devices spare_devices total sound region_is_set device_is_set
+unfolding valid valid_regions valid_devices used_regions spare_regions used_devices spare_devices total any sound region_is_set device_is_set
 empty-valid dev = le-leb 0 (length dev) (omega arith)
 
 -- ---- adding a region that ends in range to a table with room: only 13 is left

@@ -149,7 +149,7 @@ module _ (mem dev : ℕ) where
 
   -- where the buffer has room for the devices, a covered address has its byte there
   pub from-covered : (l : List Device) (n base a : ℕ) → base + total l ≤ dev → any (device_covers a) l ≡ true → (k q i : ℕ) × (place_from l n base mem dev a ≡ Bank k q i)
-  unfolding total place_from in_bank
+  unfolding any total place_from in_bank
   from-covered [] n base a h = λ e. absurd (let z : ◌≡◌ {A = ℕ} 0 1 = cc in omega arith)
   from-covered (d ∷ rest) n base a h = go (device_covers a d) refl (from-covered rest (n + 1) (base + device_size d) a (omega arith))
     where
@@ -159,7 +159,7 @@ module _ (mem dev : ℕ) where
 
   -- an address that no device covers is linear memory's
   pub from-uncovered : (l : List Device) (n base a : ℕ) → any (device_covers a) l ≡ false → place_from l n base mem dev a ≡ in_linear mem a
-  unfolding place_from
+  unfolding any place_from
   from-uncovered [] n base a = λ e. refl
   from-uncovered (d ∷ rest) n base a = go (device_covers a d) (from-uncovered rest (n + 1) (base + device_size d) a)
     where

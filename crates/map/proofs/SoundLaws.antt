@@ -13,12 +13,13 @@ use Rattle.base.proofs.Tests.{and_left, and_right, or_left, or_right}
 
 module _ {A : Type 0} where
   any-more : (test : A → Bool) (l : List A) (x : A) → any test l ≡ false → test x ≡ false → any test (l ++ (x ∷ [])) ≡ false
+  unfolding any
   any-more test [] x e f = rw f
   any-more test (y ∷ rest) x e f =
       rw (or_left (test y) (any test rest) e) (any-more test rest x (or_right (test y) (any test rest) e) f)
 
   pub sound_more : (right : A → Bool) (meets : A → A → Bool) → ((x y : A) → meets x y ≡ meets y x) → (l : List A) (x : A) → sound right meets l ≡ true → right x ≡ true → any (meets x) l ≡ false → sound right meets (l ++ (x ∷ [])) ≡ true
-  unfolding sound
+  unfolding sound any
   sound_more right meets swap [] x e f g = rw f
   sound_more right meets swap (y ∷ rest) x e f g =
       let h = and_left (right y && not (any (meets y) rest)) (sound right meets rest) e in
@@ -33,6 +34,7 @@ module _ {A : Type 0} where
     used-more = rw add-one (take-suc-set l n x h)
 
     pub spare-fewer : (test : A → Bool) → any test (drop n l) ≡ false → any test (drop (n + 1) (set l n x)) ≡ false
+    unfolding any
     spare-fewer test e =
         let k : n < n + 1 = omega arith in
         let f = rw (drop-cons l n x) at e in

@@ -3,7 +3,7 @@ use Rattle.std.specs.Prelude.{Bool, true, not, ◌&&◌, List, [], ◌∷◌}
 use Rattle.std.specs.List.{list_any}
 
 -- some entry passes the test
-abbrev pub any : {A : Type 0} → (A → Bool) → List A → Bool
+unfoldable pub any : {A : Type 0} → (A → Bool) → List A → Bool
 any test entries = list_any test entries
 
 -- each entry is right by itself, and no pair of them meets

@@ -31,6 +31,7 @@ pub fn in_use<T: Entry>(count: u16, table: &[T]) -> &[T]
 }
 
 // Whether an entry overlaps one of these.
+#[tactic(auto, unfolding(crate::specs::Tables::any))]
 pub fn meets<T: Entry>(e: T, entries: &[T]) -> bool
     ensures { result ≡ any (T.overlaps e) entries.now }
 {
@@ -38,6 +39,7 @@ pub fn meets<T: Entry>(e: T, entries: &[T]) -> bool
 }
 
 // Whether an entry holds anything but zeros.
+#[tactic(auto, unfolding(crate::specs::Tables::any))]
 fn any_set<T: Entry>(entries: &[T]) -> bool
     ensures { result ≡ any T.is_set entries.now }
 {
@@ -45,7 +47,7 @@ fn any_set<T: Entry>(entries: &[T]) -> bool
 }
 
 // Whether each entry is in range and overlaps none after it.
-#[tactic(auto, unfolding(crate::specs::Tables::sound))]
+#[tactic(auto, unfolding(crate::specs::Tables::sound, crate::specs::Tables::any))]
 fn is_sound<T: Entry>(entries: &[T]) -> bool
     ensures { result ≡ sound T.in_range T.overlaps entries.now }
 {

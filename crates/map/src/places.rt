@@ -70,6 +70,7 @@ pub fn is_somewhere(p: Place) -> bool
 }
 
 // Whether a device in use covers an address or the next one.
+#[tactic(auto, unfolding(crate::specs::Tables::any))]
 fn device_within(m: Map, a: u16, b: u16) -> bool
     requires { b ≡ a + 1 }
     ensures { result ≡ any (covers_either a b) (used_devices m) }

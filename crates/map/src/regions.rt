@@ -49,7 +49,7 @@ impl Map {
 }
 
 // Whether a region in use protects address a.
-#[tactic(auto, unfolding(crate::specs::Regions::protected))]
+#[tactic(auto, unfolding(crate::specs::Regions::protected, crate::specs::Tables::any))]
 pub fn is_protected(m: Map, a: u16) -> bool
     ensures { result ≡ protected m a }
 {
