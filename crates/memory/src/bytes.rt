@@ -10,29 +10,13 @@ pub fn read_at(p: Place, mem: &[u8], dev: &[u8]) -> Option<(u8, Place)>
     ensures { result ≡ get p (lent mem.now dev.now) }
 {
     match p {
-        Place::Linear(i) => {
-            if i < mem.len() {
-                Some((mem[i], p))
-            } else {
-                None
-            }
-        }
-        Place::Bank {
-            number: _,
-            offset: _,
-            index,
-        } => {
-            if index < dev.len() {
-                Some((dev[index], p))
-            } else {
-                None
-            }
-        }
+        Place::Linear(i) => mem.get(i).map(|byte| (*byte, p)),
+        Place::Bank { index, .. } => dev.get(index).map(|byte| (*byte, p)),
         Place::Nowhere => None,
     }
 }
 
-// The byte stored at a place, where the bytes lent have it.
+// The byte stored at a place, where the bytes lent have it. (c): with `get_mut` in place of the tests its proof does not close.
 #[tactic(auto, unfolding(crate::specs::Bytes::put))]
 pub fn store_at(p: Place, mem: &mut [u8], dev: &mut [u8], v: u8)
     ensures { lent mem.new dev.new ≡ put p (lent mem.old dev.old) v }
@@ -43,11 +27,7 @@ pub fn store_at(p: Place, mem: &mut [u8], dev: &mut [u8], v: u8)
                 mem[i] = v;
             }
         }
-        Place::Bank {
-            number: _,
-            offset: _,
-            index,
-        } => {
+        Place::Bank { index, .. } => {
             if index < dev.len() {
                 dev[index] = v;
             }

@@ -118,15 +118,10 @@ pub fn make(c: Changes, mem: &mut [u8], dev: &mut [u8])
 {
     match c {
         Changes::Nothing => {}
-        Changes::One(x) => {
-            let p = x.place;
-            store_at(p, mem, dev, x.byte);
-        }
+        Changes::One(x) => store_at(x.place, mem, dev, x.byte),
         Changes::Two(x, y) => {
-            let p = x.place;
-            store_at(p, mem, dev, x.byte);
-            let q = y.place;
-            store_at(q, mem, dev, y.byte);
+            store_at(x.place, mem, dev, x.byte);
+            store_at(y.place, mem, dev, y.byte);
         }
     }
 }
@@ -136,8 +131,7 @@ pub fn store_word(m: Map, mem: &mut [u8], dev: &mut [u8], a: u16, w: u16) -> Res
     ensures result_value { told result ≡ word_stored m (lent mem.old dev.old) a }
     ensures dev_after { lent mem.new dev.new ≡ store_word m (lent mem.old dev.old) a w }
 {
-    let d = decide_word(m, &mem[..], &dev[..], a, w);
-    let c = d.changes;
-    make(c, mem, dev);
+    let d = decide_word(m, mem, dev, a, w);
+    make(d.changes, mem, dev);
     d.outcome
 }
