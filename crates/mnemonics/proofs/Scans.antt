@@ -17,8 +17,8 @@ use Rattle.base.specs.Bytes.{same}
 use Rattle.base.specs.Choice.{cond}
 use Rattle.base.proofs.SameLaws.{same-equal, same_self}
 use Rattle.base.proofs.Tests.{and_left, and_right}
-use Rattle.mnemonics.specs.Tables.{Row}
-use Rattle.mnemonics.specs.Mnemonics.{upper, kind_in, row_of}
+use Rattle.mnemonics.specs.Tables.{Row, row_of}
+use Rattle.mnemonics.specs.Mnemonics.{upper, kind_in}
 use Rattle.mnemonics.specs.declared.Kind.{Kind}
 
 -- a capital letter
@@ -74,6 +74,6 @@ found token (m ∷ ms) h =
     go false true q e = cc
 
 -- what is read of the row found
-pub its-kind : {A B : Type 0} (f : A → B) (o : Option (Bor A)) → option_map (λ (y : Bor A). f y.now) o ≡ option_map f (option_map (λ (y : Bor A). y.now) o)
-its-kind f None = refl
-its-kind f (Some y) = refl
+pub row-read : {A B : Type 0} (f : A → B) (o : Option (Bor A)) → option_map (λ (y : Bor A). f y.now) o ≡ option_map f (option_map (λ (y : Bor A). y.now) o)
+row-read f None = refl
+row-read f (Some y) = refl

@@ -8,7 +8,6 @@ use Rattle.instruction.specs.declared.CompareOp.TheVariants.{Eq, NotEq, Less, Le
 use Rattle.mnemonics.specs.Tables.{Row, row, first_row}
 use Rattle.mnemonics.specs.declared.Kind.{Kind}
 use Rattle.mnemonics.specs.declared.Kind.TheVariants.{Dbg, Mov, MovShift, Copy, Arith, ArithRegReg, Transfer, Jump, Compare, Ret, Call}
-use denote.Ref.{Bor}
 
 unfoldable pub rows : List (Row Kind)
 rows =
@@ -43,10 +42,6 @@ rows =
     ∷ row (bytes "RET") Ret
     ∷ row (bytes "CALL") Call
     ∷ []
-
--- a row of the code's table, whose name it borrows
-abbrev pub row_of : Bor (List ℕ) × Kind → Row Kind
-row_of m = row m.0.now m.1
 
 -- a letter in upper case; any other byte as it is
 unfoldable pub upper : ℕ → ℕ

@@ -1,7 +1,8 @@
 // The one constant table of the mnemonics: by it alone a name is read. The printer writes names of its own; that each of them finds its
 // row here is a law (source/proofs/Names.antt).
 ghost use Rattle.std.specs.Prelude.{◌≡◌, map};
-ghost use Rattle.mnemonics.specs.Mnemonics.{row_of, rows};
+ghost use Rattle.mnemonics.specs.Tables.{row_of};
+ghost use Rattle.mnemonics.specs.Mnemonics.{rows};
 
 use crate::Kind;
 use instruction::{ArithOp, ArithmeticOp, CompareOp};

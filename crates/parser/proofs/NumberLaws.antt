@@ -23,10 +23,13 @@ use Rattle.text.specs.Immediates.{immediate}
 use Rattle.text.specs.Parts.{equals, drop_front, drop_end}
 use Rattle.text.proofs.Laws.{immediate-refused}
 use Rattle.parser.specs.declared.Reference.TheVariants as reference
-use Rattle.parser.specs.declared.names.RegisterName.{RegisterName}
-use Rattle.parser.specs.Answers.{Meaning, says, refers, Both, both, Triple, triple, Turn, turn, Place, at}
+use Rattle.std.specs.Prelude.{Option, Some, None}
+use Rattle.mnemonics.specs.Tables.{Row}
+use Rattle.parser.specs.declared.brackets.Shift.{Shift}
+use Rattle.parser.specs.declared.brackets.Address.{Address}
+use Rattle.parser.specs.Answers.{Meaning, says, refers, both, triple, turn, at}
 use Rattle.parser.specs.Operands.{nth, hash, opening, closing, comma, starts, called, register_names, register_in, register, comma_register, operand, opened_immediate, eight_bits, closed_byte, register_and_operand, three_registers, shift_operands, bracketed, address}
-use Rattle.parser.specs.Parse.{takes, saying, mov, arith, compare, copy, combining, arith_reg_reg, turning, mov_shift, moving, transfer, jumping, register_else, target, callee, meaning, parse}
+use Rattle.parser.specs.Parse.{takes, saying, mov, arith, compare, copy, combining, arith_reg_reg, turning, mov_shift, moving, transfer, jumping, register_else, target, callee, meaning, counted, parse}
 
 -- the numbers of 01's refusals of a line, apart from those of a blank one and of an unknown label
 abbrev pub Number : ℕ → Type 0
@@ -77,9 +80,9 @@ register-fair : (t : List ℕ) → Fair (register t)
 unfolding register
 register-fair t = go register_names
   where
-    go : (rs : List RegisterName) → Fair (register_in rs t)
+    go : (rs : List (Row Register)) → Fair (register_in rs t)
     go [] = 20-fair
-    go (r ∷ rs) = if-fair (called t r) (is r.register) (register_in rs t) tt (go rs)
+    go (r ∷ rs) = if-fair (called t r) (is r.value) (register_in rs t) tt (go rs)
 
 comma-fair : (t : List ℕ) → Fair (comma_register t)
 comma-fair t = register-fair (drop_end (equals comma) t)
@@ -133,8 +136,8 @@ address-fair line t =
 
 -- ---- each mnemonic
 
-saying-fair : (f : Register → Operand → Instruction) (p : Both) → Fair (saying f p)
-saying-fair f (both r o) = tt
+saying-fair : (f : Register → Operand → Instruction) (p : Register × Operand) → Fair (saying f p)
+saying-fair f (r, o) = tt
 
 mov-fair : (line : List (List ℕ)) → Fair (mov line)
 unfolding mov
@@ -158,22 +161,22 @@ copy-fair line =
     two (nth 1 comma_register line) (nth 2 register line) (λ a b. is (says (Cpy a b)))
     (nth-fair 1 comma_register line comma-fair) (nth-fair 2 register line register-fair) (λ a b. tt)
 
-combining-fair : (op : ArithmeticOp) (t : Triple) → Fair (combining op t)
-combining-fair op (triple d a b) = tt
+combining-fair : (op : ArithmeticOp) (t : Register × Register × Register) → Fair (combining op t)
+combining-fair op (d, a, b) = tt
 
 three-fair : (op : ArithmeticOp) (line : List (List ℕ)) → Fair (arith_reg_reg op line)
 unfolding arith_reg_reg
 three-fair op line = one (three_registers line) (combining op) (registers-fair line) (combining-fair op)
 
-turning-fair : (left : Bool) (t : Turn) → Fair (turning left t)
-turning-fair left (turn r imm amount) = tt
+turning-fair : (left : Bool) (t : Shift) → Fair (turning left t)
+turning-fair left t = tt
 
 shift-fair : (left : Bool) (line : List (List ℕ)) → Fair (mov_shift left line)
 unfolding mov_shift
 shift-fair left line = one (shift_operands line) (turning left) (turn-fair line) (turning-fair left)
 
-moving-fair : (byte store : Bool) (r : Register) (p : Place) → Fair (moving byte store r p)
-moving-fair byte store r (at a n) = tt
+moving-fair : (byte store : Bool) (r : Register) (p : Address) → Fair (moving byte store r p)
+moving-fair byte store r p = tt
 
 transfer-fair : (byte store : Bool) (line : List (List ℕ)) → Fair (transfer byte store line)
 unfolding transfer
@@ -202,7 +205,6 @@ callee-fair t =
 
 meaning-fair : (k : Kind) (line : List (List ℕ)) → Fair (meaning k line)
 unfolding meaning
-meaning-fair kind.Unknown line = 22-fair
 meaning-fair kind.Dbg line = tt
 meaning-fair kind.Mov line = mov-fair line
 meaning-fair (kind.MovShift left) line = shift-fair left line
@@ -215,8 +217,10 @@ meaning-fair (kind.Compare op) line = compare-fair op line
 meaning-fair kind.Ret line = tt
 meaning-fair kind.Call line = nth-fair 1 callee line callee-fair
 
+counted-fair : (k : Option Kind) (n : ℕ) (line : List (List ℕ)) → Fair (counted k n line)
+counted-fair None n line = 22-fair
+counted-fair (Some k) n line = if-fair (takes k n) (meaning k line) (no 22) (meaning-fair k line) 22-fair
+
 pub parse-fair : (mnemonic : List ℕ) (operands : List (List ℕ)) → Fair (parse (mnemonic ∷ operands))
 unfolding parse
-parse-fair mnemonic operands =
-    let line = mnemonic ∷ operands in
-    if-fair (takes (kind_of mnemonic) (length operands)) (meaning (kind_of mnemonic) line) (no 22) (meaning-fair (kind_of mnemonic) line) 22-fair
+parse-fair mnemonic operands = counted-fair (kind_of mnemonic) (length operands) (mnemonic ∷ operands)

@@ -17,13 +17,16 @@ use Rattle.instruction.specs.Fits.{sayable}
 use Rattle.mnemonics.specs.Mnemonics.{kind_of}
 use Rattle.mnemonics.specs.declared.Kind.{Kind}
 use Rattle.mnemonics.specs.declared.Kind.TheVariants as kind
+use Rattle.std.specs.Prelude.{Option, Some, None}
+use Rattle.parser.specs.declared.brackets.Shift.{Shift}
+use Rattle.parser.specs.declared.brackets.Address.{Address}
 use Rattle.text.specs.Immediates.{immediate}
 use Rattle.text.specs.Tokens.{first}
 use Rattle.parser.specs.declared.Reference.{Reference}
 use Rattle.parser.specs.declared.Reference.TheVariants as reference
-use Rattle.parser.specs.Answers.{Meaning, says, refers, Both, both, Triple, triple, Turn, turn, Place, at}
+use Rattle.parser.specs.Answers.{Meaning, says, refers}
 use Rattle.parser.specs.Operands.{nth, hash, starts, register, comma_register, register_and_operand, three_registers, shift_operands, address}
-use Rattle.parser.specs.Parse.{takes, saying, mov, arith, compare, copy, combining, arith_reg_reg, turning, mov_shift, moving, transfer, jumping, register_else, target, callee, meaning, parse}
+use Rattle.parser.specs.Parse.{takes, saying, mov, arith, compare, copy, combining, arith_reg_reg, turning, mov_shift, moving, transfer, jumping, register_else, target, callee, meaning, counted, parse}
 
 -- the operand that a line with one operand has
 abbrev pub second : List (List ℕ) → List ℕ
@@ -73,18 +76,18 @@ callee-names t =
     if-names t (starts hash t) (immediate t >>= f) (is (refers reference.Call t)) (then-names t (immediate t) f (λ n. refl)) refl
 
 module _ (name : List ℕ) where
-  saying-names : (f : Register → Operand → Instruction) → ((r : Register) (o : Operand) → sayable (f r o) ≡ true) → (p : Both) → Names name (saying f p)
-  saying-names f h (both r o) = h r o
+  saying-names : (f : Register → Operand → Instruction) → ((r : Register) (o : Operand) → sayable (f r o) ≡ true) → (p : Register × Operand) → Names name (saying f p)
+  saying-names f h (r, o) = h r o
 
-  combining-names : (op : ArithmeticOp) (p : Triple) → Names name (combining op p)
-  combining-names op (triple d a b) = refl
+  combining-names : (op : ArithmeticOp) (p : Register × Register × Register) → Names name (combining op p)
+  combining-names op (d, a, b) = refl
 
-  turning-names : (left : Bool) (p : Turn) → Names name (turning left p)
-  turning-names left (turn r imm amount) = refl
+  turning-names : (left : Bool) (p : Shift) → Names name (turning left p)
+  turning-names left p = refl
 
-  moving-names : (byte store : Bool) (r : Register) (p : Place) → Names name (moving byte store r p)
-  moving-names true store r (at a n) = refl
-  moving-names false store r (at a n) = refl
+  moving-names : (byte store : Bool) (r : Register) (p : Address) → Names name (moving byte store r p)
+  moving-names true store r p = refl
+  moving-names false store r p = refl
 
   copy-names : (line : List (List ℕ)) → Names name (copy line)
   unfolding copy
@@ -102,7 +105,6 @@ module _ (name : List ℕ) where
 
 meaning-names : (k : Kind) (line : List (List ℕ)) → Names (second line) (meaning k line)
 unfolding meaning mov arith compare arith_reg_reg mov_shift
-meaning-names kind.Unknown line = tt
 meaning-names kind.Dbg line = refl
 meaning-names kind.Mov line = then-names (second line) (register_and_operand line) (saying Mov) (saying-names (second line) Mov (λ r o. refl))
 meaning-names (kind.MovShift left) line = then-names (second line) (shift_operands line) (turning left) (turning-names (second line) left)
@@ -119,12 +121,14 @@ meaning-names (kind.Compare op) line =
 meaning-names kind.Ret line = refl
 meaning-names kind.Call line = second-names callee line callee-names
 
+counted-names : (k : Option Kind) (n : ℕ) (line : List (List ℕ)) → Names (second line) (counted k n line)
+counted-names None n line = tt
+counted-names (Some k) n line = if-names (second line) (takes k n) (meaning k line) (no 22) (meaning-names k line) tt
+
 pub parse-names : (ts : List (List ℕ)) → Names (second ts) (parse ts)
 unfolding parse
 parse-names [] = tt
-parse-names (mnemonic ∷ operands) =
-    let line = mnemonic ∷ operands in
-    if-names (second line) (takes (kind_of mnemonic) (length operands)) (meaning (kind_of mnemonic) line) (no 22) (meaning-names (kind_of mnemonic) line) tt
+parse-names (mnemonic ∷ operands) = counted-names (kind_of mnemonic) (length operands) (mnemonic ∷ operands)
 
 pub refers-second : (ts : List (List ℕ)) (r : Reference) (name : List ℕ) → parse ts ≡ is (refers r name) → name ≡ first (drop 1 ts)
 refers-second ts r name e = rw e at (parse-names ts)

@@ -1,27 +1,33 @@
--- The table of the registers' names: its rows' lengths are tested once over the table. Assumes nothing.
-use Prim.Native.Nat.{ℕ, ◌≤◌, ◌<◌}
+-- The register of a name is that of the first row with it, as the code finds it. Assumes nothing.
+use Prim.Native.Nat.{ℕ}
 use mathlib.Core.Path.{◌≡◌, refl}
-use mathlib.Core.Bool.{Bool}
-use mathlib.Core.List.{[]}
-use lib.Dec.{leb}
-use lib.ListN.{length, get_or}
-use borrow.Author.Tests.{leb-true}
-use Rattle.instruction.specs.declared.Register.TheVariants.{A}
-use Rattle.mnemonics.proofs.Scans.{every-at}
-use Rattle.parser.specs.declared.names.RegisterName.{RegisterName}
-use Rattle.parser.specs.Operands.{register_names}
+use mathlib.Core.Bool.{Bool, true, false}
+use mathlib.Core.List.{List, [], ◌∷◌, map}
+use denote.Ref.{Bor}
+use Rattle.std.specs.Prelude.{Some, ok_or}
+use Rattle.std.specs.List.{find}
+use Rattle.std.specs.Option.{option_map}
+use Rattle.std.proofs.Common.{cond as std-cond}
+use Rattle.base.specs.Bytes.{same}
+use Rattle.base.specs.Choice.{cond}
+use Rattle.base.specs.Told.{is, told}
+use Rattle.base.specs.declared.refusals.Refusal.TheVariants.{InvalidRegister}
+use Rattle.instruction.specs.declared.Register.{Register}
+use Rattle.mnemonics.specs.Tables.{row_of}
+use Rattle.parser.specs.Operands.{register_in}
 
--- what Rattle has past the end of an array, where the code never looks: no bytes, 0, and the first register
-abbrev pub no_row : RegisterName
-no_row = record { name = []; length = 0; register = A }
+-- a row of the code's table, and whether the token is its name
+abbrev pub Entry : Type 0
+Entry = Bor (List ℕ) × Register
 
-abbrev short : RegisterName → Bool
-short r = leb r.length 5
+abbrev pub spelled : List ℕ → Entry → Bool
+spelled token m = same token m.0.now
 
-pub at-most-five : (k : ℕ) → k < 8 → (get_or register_names k no_row).length ≤ 5
-unfolding register_names
-at-most-five k h = leb-true (get_or register_names k no_row).length 5 (every-at short no_row register_names refl k h)
-
-pub eight : length register_names ≡ 8
-unfolding register_names
-eight = refl
+pub found : (token : List ℕ) (ms : List Entry) → told (ok_or (option_map (λ (m : Entry). m.1) (find (spelled token) ms)) InvalidRegister) ≡ register_in (map row_of ms) token
+found token [] = refl
+found token (m ∷ ms) = go (spelled token m) (found token ms)
+  where
+    go : (t : Bool) → told (ok_or (option_map (λ (m : Entry). m.1) (find (spelled token) ms)) InvalidRegister) ≡ register_in (map row_of ms) token →
+        told (ok_or (option_map (λ (m : Entry). m.1) (std-cond t (Some m) (find (spelled token) ms))) InvalidRegister) ≡ cond t (is m.1) (register_in (map row_of ms) token)
+    go true e = refl
+    go false e = e

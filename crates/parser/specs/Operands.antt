@@ -1,5 +1,5 @@
 -- How an operand is read. Operands are read from left to right, and the first that is refused gives its number to the line.
-use Rattle.std.specs.Prelude.{ℕ, zero, suc, List, [], ◌∷◌, Bool, false, eqb, leb, length, take}
+use Rattle.std.specs.Prelude.{ℕ, zero, suc, List, [], ◌∷◌, Bool, false, eqb, leb}
 use Rattle.base.specs.Bytes.{bytes, same}
 use Rattle.base.specs.Choice.{cond}
 use Rattle.base.specs.Told.{Told, is, no, ◌>>=◌}
@@ -7,11 +7,12 @@ use Rattle.instruction.specs.declared.Operand.{Operand}
 use Rattle.instruction.specs.declared.Operand.TheVariants.{Reg, Imm}
 use Rattle.instruction.specs.declared.Register.{Register}
 use Rattle.instruction.specs.declared.Register.TheVariants.{A, B, C, M, SP, PC, BP, FLAGS}
-use Rattle.mnemonics.specs.Tables.{padded, first_row}
+use Rattle.mnemonics.specs.Tables.{Row, row, first_row}
 use Rattle.text.specs.Immediates.{immediate}
 use Rattle.text.specs.Parts.{equals, drop_front, drop_end}
-use Rattle.parser.specs.declared.names.RegisterName.{RegisterName}
-use Rattle.parser.specs.Answers.{Both, both, Triple, triple, Turn, turn, Place, at}
+use Rattle.parser.specs.declared.brackets.Shift.{Shift}
+use Rattle.parser.specs.declared.brackets.Address.{Address}
+use Rattle.parser.specs.Answers.{both, triple, turn, at}
 
 -- ---- one after the other
 
@@ -50,11 +51,8 @@ abbrev pub starts : ℕ → List ℕ → Bool
 starts b [] = false
 starts b (x ∷ xs) = eqb x b
 
--- the registers by name: the name padded with zeros to five bytes, its length, the register
-abbrev pub row : List ℕ → Register → RegisterName
-row name r = record { name = padded name; length = length name; register = r }
-
-unfoldable pub register_names : List RegisterName
+-- the registers by name
+unfoldable pub register_names : List (Row Register)
 register_names =
     row (bytes "A") A
     ∷ row (bytes "B") B
@@ -67,11 +65,11 @@ register_names =
     ∷ []
 
 -- is it this row's name?
-abbrev pub called : List ℕ → RegisterName → Bool
-called t r = same t (take r.length r.name)
+abbrev pub called : List ℕ → Row Register → Bool
+called t r = same t r.name
 
-abbrev pub register_in : List RegisterName → List ℕ → Told Register
-register_in rs t = first_row (called t) (λ (r : RegisterName). is r.register) (no 20) rs
+abbrev pub register_in : List (Row Register) → List ℕ → Told Register
+register_in rs t = first_row (called t) (λ (r : Row Register). is r.value) (no 20) rs
 
 -- registers are exact, else 20
 unfoldable pub register : List ℕ → Told Register
@@ -100,14 +98,14 @@ closed_byte over t = immediate (drop_end (equals closing) t) >>= eight_bits over
 -- ---- operands that belong together
 
 -- the first operand a register, the second a register or an immediate
-unfoldable pub register_and_operand : List (List ℕ) → Told Both
+unfoldable pub register_and_operand : List (List ℕ) → Told (Register × Operand)
 register_and_operand line = do
   r ← first comma_register line
   o ← second operand line
   is (both r o)
 
 -- three registers
-unfoldable pub three_registers : List (List ℕ) → Told Triple
+unfoldable pub three_registers : List (List ℕ) → Told (Register × Register × Register)
 three_registers line = do
   d ← first comma_register line
   a ← second comma_register line
@@ -115,7 +113,7 @@ three_registers line = do
   is (triple d a b)
 
 -- the immediate and then the amount, which is 22 over 255: MSL A, [#imm #amount]
-unfoldable pub shift_operands : List (List ℕ) → Told Turn
+unfoldable pub shift_operands : List (List ℕ) → Told Shift
 shift_operands line = do
   r ← first comma_register line
   imm ← second opened_immediate line
@@ -123,14 +121,14 @@ shift_operands line = do
   is (turn r imm amount)
 
 -- this register with the third operand as its shift, which is 24 over 255
-unfoldable pub bracketed : Told Register → List (List ℕ) → Told Place
+unfoldable pub bracketed : Told Register → List (List ℕ) → Told Address
 bracketed base line = do
   r ← base
   n ← third (closed_byte 24) line
   is (at r n)
 
 -- an address: after `[` the register and then the shift; without, a register alone, and no third operand is looked at
-unfoldable pub address : List (List ℕ) → List ℕ → Told Place
+unfoldable pub address : List (List ℕ) → List ℕ → Told Address
 address line t =
     cond (starts opening t)
     (bracketed (register (drop_front (equals opening) t)) line)

@@ -1,5 +1,5 @@
 -- What a line says: how many operands its mnemonic takes, then its operands from left to right.
-use Rattle.std.specs.Prelude.{ℕ, List, [], ◌∷◌, Bool, true, false, eqb, leb, length}
+use Rattle.std.specs.Prelude.{ℕ, List, [], ◌∷◌, Bool, true, false, Option, Some, None, eqb, leb, length}
 use Rattle.base.specs.Choice.{cond}
 use Rattle.base.specs.Told.{Told, is, no, ◌>>=◌}
 use Rattle.instruction.specs.declared.ArithOp.{ArithOp}
@@ -16,14 +16,15 @@ use Rattle.mnemonics.specs.declared.Kind.TheVariants as kind
 use Rattle.text.specs.Immediates.{immediate}
 use Rattle.parser.specs.declared.Reference.{Reference}
 use Rattle.parser.specs.declared.Reference.TheVariants as reference
-use Rattle.parser.specs.Answers.{Meaning, says, refers, Both, both, Triple, triple, Turn, turn, Place, at}
+use Rattle.parser.specs.declared.brackets.Shift.{Shift}
+use Rattle.parser.specs.declared.brackets.Address.{Address}
+use Rattle.parser.specs.Answers.{Meaning, says, refers}
 use Rattle.parser.specs.Operands.{first, second, hash, starts, register, comma_register, register_and_operand, three_registers, shift_operands, address}
 
 -- ---- how many operands: MOV, CPY, compares 2; MSL, MSR, three-register forms 3; JMP, CJP, CALL 1; ADD to DIV at most 2,
 -- LDR to STB at most 3; RET and DBG ignore them
 
 unfoldable pub takes : Kind → ℕ → Bool
-takes kind.Unknown n = true
 takes kind.Dbg n = true
 takes kind.Ret n = true
 takes kind.Mov n = eqb n 2
@@ -39,8 +40,8 @@ takes (kind.Transfer byte store) n = leb n 3
 -- ---- the operands of each mnemonic
 
 -- an instruction of a register and an operand
-abbrev pub saying : (Register → Operand → Instruction) → Both → Told Meaning
-saying f (both r o) = is (says (f r o))
+abbrev pub saying : (Register → Operand → Instruction) → Register × Operand → Told Meaning
+saying f (r, o) = is (says (f r o))
 
 unfoldable pub mov : List (List ℕ) → Told Meaning
 mov line = register_and_operand line >>= saying Mov
@@ -57,15 +58,15 @@ copy line = do
   to ← second register line
   is (says (Cpy from to))
 
-abbrev pub combining : ArithmeticOp → Triple → Told Meaning
-combining op (triple d a b) = is (says (ArithRegReg d a b op))
+abbrev pub combining : ArithmeticOp → Register × Register × Register → Told Meaning
+combining op (d, a, b) = is (says (ArithRegReg d a b op))
 
 unfoldable pub arith_reg_reg : ArithmeticOp → List (List ℕ) → Told Meaning
 arith_reg_reg op line = three_registers line >>= combining op
 
 -- left, else right
-abbrev pub turning : Bool → Turn → Told Meaning
-turning left (turn r imm amount) = is (says (MovShift r amount left imm))
+abbrev pub turning : Bool → Shift → Told Meaning
+turning left s = is (says (MovShift s.register s.amount left s.immediate))
 
 unfoldable pub mov_shift : Bool → List (List ℕ) → Told Meaning
 mov_shift left line = shift_operands line >>= turning left
@@ -75,8 +76,8 @@ abbrev pub transferred : Bool → Register → Register → Bool → ℕ → Ins
 transferred true r a store shift = LdbStb r a store shift
 transferred false r a store shift = LdrStr r a store shift
 
-abbrev pub moving : Bool → Bool → Register → Place → Told Meaning
-moving byte store r (at a shift) = is (says (transferred byte r a store shift))
+abbrev pub moving : Bool → Bool → Register → Address → Told Meaning
+moving byte store r a = is (says (transferred byte r a.base store a.shift))
 
 unfoldable pub transfer : Bool → Bool → List (List ℕ) → Told Meaning
 transfer byte store line = do
@@ -110,7 +111,6 @@ callee t = cond (starts hash t) (immediate t >>= λ n. is (says (CallRet false n
 -- ---- the line
 
 unfoldable pub meaning : Kind → List (List ℕ) → Told Meaning
-meaning kind.Unknown line = no 22
 meaning kind.Dbg line = is (says Noop)
 meaning kind.Mov line = mov line
 meaning (kind.MovShift left) line = mov_shift left line
@@ -123,8 +123,12 @@ meaning (kind.Compare op) line = compare op line
 meaning kind.Ret line = is (says (CallRet true 0))
 meaning kind.Call line = first callee line
 
+-- a line of this kind, if it has one, and with so many operands
+abbrev pub counted : Option Kind → ℕ → List (List ℕ) → Told Meaning
+counted None n line = no 22
+counted (Some k) n line = cond (takes k n) (meaning k line) (no 22)
+
 -- over the tokens of a line
 unfoldable pub parse : List (List ℕ) → Told Meaning
 parse [] = no 23
-parse (mnemonic ∷ operands) =
-    cond (takes (kind_of mnemonic) (length operands)) (meaning (kind_of mnemonic) (mnemonic ∷ operands)) (no 22)
+parse (mnemonic ∷ operands) = counted (kind_of mnemonic) (length operands) (mnemonic ∷ operands)

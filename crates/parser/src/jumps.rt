@@ -5,12 +5,11 @@ ghost use Rattle.parser.specs.Answers.{told};
 ghost use Rattle.parser.specs.Operands.{nth};
 ghost use Rattle.parser.specs.Parse.{jumping, waiting, target, callee};
 
-use crate::operands::starts;
-use crate::registers::{Named, register};
+use crate::operands::{operand_token, starts};
+use crate::registers::register;
 use crate::{Parsed, Reference};
 use base::Refusal;
 use instruction::{Instruction, Operand};
-use text::Immediate;
 
 fn jumping(conditional: bool, to: Operand) -> Instruction
     ensures { result ≡ jumping conditional to }
@@ -32,40 +31,29 @@ fn waiting(conditional: bool) -> Reference
     }
 }
 
-pub fn parse_jmp(line: &[u8], conditional: bool) -> Parsed
+#[tactic(auto, using(crate::proofs::OperandLaws::nth_read), unfolding(crate::specs::Parse::target))]
+pub fn parse_jmp(line: &[u8], conditional: bool) -> Result<Parsed, Refusal>
     ensures { told result (token_at line.now 1) ≡ nth 1 (target conditional) (tokens line.now) }
 {
-    let t = text::token(line, 1);
-    if t.len() == 0 {
-        return Parsed::Refused(Refusal::InvalidOperands);
-    }
+    let t = operand_token(line, 1)?;
     if starts(t, b'#') {
-        let v = text::parse_immediate(t);
-        return match v {
-            Immediate::Is(address) => Parsed::Is(jumping(conditional, Operand::Imm(address))),
-            Immediate::Refused(e) => Parsed::Refused(e),
-        };
+        let address = text::parse_immediate(t)?;
+        return Ok(Parsed::Is(jumping(conditional, Operand::Imm(address))));
     }
-    let n = register(t);
-    match n {
-        Named::Is(r) => Parsed::Is(jumping(conditional, Operand::Reg(r))),
-        Named::Refused(_) => Parsed::Refers(waiting(conditional)),
+    match register(t) {
+        Ok(r) => Ok(Parsed::Is(jumping(conditional, Operand::Reg(r)))),
+        Err(_) => Ok(Parsed::Refers(waiting(conditional))),
     }
 }
 
-pub fn parse_call(line: &[u8]) -> Parsed
+#[tactic(auto, using(crate::proofs::OperandLaws::nth_read), unfolding(crate::specs::Parse::callee))]
+pub fn parse_call(line: &[u8]) -> Result<Parsed, Refusal>
     ensures { told result (token_at line.now 1) ≡ nth 1 callee (tokens line.now) }
 {
-    let t = text::token(line, 1);
-    if t.len() == 0 {
-        return Parsed::Refused(Refusal::InvalidOperands);
-    }
+    let t = operand_token(line, 1)?;
     if starts(t, b'#') {
-        let v = text::parse_immediate(t);
-        return match v {
-            Immediate::Is(address) => Parsed::Is(Instruction::CallRet(false, address)),
-            Immediate::Refused(e) => Parsed::Refused(e),
-        };
+        let address = text::parse_immediate(t)?;
+        return Ok(Parsed::Is(Instruction::CallRet(false, address)));
     }
-    Parsed::Refers(Reference::Call)
+    Ok(Parsed::Refers(Reference::Call))
 }

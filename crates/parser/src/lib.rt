@@ -10,13 +10,12 @@ mod operands;
 mod references;
 mod registers;
 
-use base::Refusal;
 use instruction::Instruction;
 pub use lines::parse;
 pub use references::resolved;
 
 // An instruction that names a label, before it has the label's address.
-#[derive(Clone, Copy)]
+#[derive(Clone, Copy, Debug, PartialEq, Eq)]
 pub enum Reference {
     Jmp,
     CondJmp,
@@ -28,5 +27,4 @@ pub enum Reference {
 pub enum Parsed {
     Is(Instruction),
     Refers(Reference),
-    Refused(Refusal),
 }

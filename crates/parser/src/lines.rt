@@ -15,32 +15,27 @@ use instruction::Instruction;
 use mnemonics::Kind;
 
 // May a mnemonic of this kind have so many operands?
+#[tactic(auto, unfolding(crate::specs::Parse::takes))]
 fn takes(kind: Kind, count: usize) -> bool
     ensures { result ≡ takes kind count }
 {
     match kind {
-        Kind::Unknown => true,
-        Kind::Dbg => true,
-        Kind::Mov => count == 2,
-        Kind::MovShift(_) => count == 3,
-        Kind::Copy => count == 2,
+        Kind::Dbg | Kind::Ret => true,
+        Kind::Mov | Kind::Copy | Kind::Compare(_) => count == 2,
+        Kind::MovShift(_) | Kind::ArithRegReg(_) => count == 3,
+        Kind::Jump(_) | Kind::Call => count == 1,
         Kind::Arith(_) => count <= 2,
-        Kind::ArithRegReg(_) => count == 3,
         Kind::Transfer(_, _) => count <= 3,
-        Kind::Jump(_) => count == 1,
-        Kind::Compare(_) => count == 2,
-        Kind::Ret => true,
-        Kind::Call => count == 1,
     }
 }
 
 // What a line of this kind says, its operands counted.
-fn parse_kind(kind: Kind, line: &[u8]) -> Parsed
+#[tactic(auto, unfolding(crate::specs::Parse::meaning))]
+fn parse_kind(kind: Kind, line: &[u8]) -> Result<Parsed, Refusal>
     ensures { told result (token_at line.now 1) ≡ meaning kind (tokens line.now) }
 {
     match kind {
-        Kind::Unknown => Parsed::Refused(Refusal::InvalidInstruction),
-        Kind::Dbg => Parsed::Is(Instruction::Noop),
+        Kind::Dbg => Ok(Parsed::Is(Instruction::Noop)),
         Kind::Mov => parse_mov(line),
         Kind::MovShift(left) => parse_mov_shift(line, left),
         Kind::Copy => parse_copy(line),
@@ -49,21 +44,21 @@ fn parse_kind(kind: Kind, line: &[u8]) -> Parsed
         Kind::Transfer(byte, store) => parse_ldr_str(line, byte, store),
         Kind::Jump(conditional) => parse_jmp(line, conditional),
         Kind::Compare(op) => parse_comparision(line, op),
-        Kind::Ret => Parsed::Is(Instruction::CallRet(true, 0)),
+        Kind::Ret => Ok(Parsed::Is(Instruction::CallRet(true, 0))),
         Kind::Call => parse_call(line),
     }
 }
 
-pub fn parse(line: &[u8]) -> Parsed
+pub fn parse(line: &[u8]) -> Result<Parsed, Refusal>
     ensures { told result (token_at line.now 1) ≡ parse (tokens line.now) }
 {
     let count = text::count_tokens(line);
     if count == 0 {
-        return Parsed::Refused(Refusal::InvalidFormat);
+        return Err(Refusal::InvalidFormat);
     }
-    let kind = mnemonics::kind_of(text::token(line, 0));
-    if takes(kind, count - 1) {
-        return parse_kind(kind, line);
+    let kind = mnemonics::kind_of(text::token(line, 0)).ok_or(Refusal::InvalidInstruction)?;
+    if !takes(kind, count - 1) {
+        return Err(Refusal::InvalidInstruction);
     }
-    Parsed::Refused(Refusal::InvalidInstruction)
+    parse_kind(kind, line)
 }

@@ -1,80 +1,61 @@
-// Operands that may be a register or an immediate.
+// Operands as they stand, and those that may be a register or an immediate. The mnemonic is token 0 of a line, so operand k is token k.
 ghost use Rattle.std.specs.Prelude.{◌≡◌};
+ghost use Rattle.base.specs.Told.{is, told};
 ghost use Rattle.text.specs.Tokens.{tokens};
-ghost use Rattle.parser.specs.Answers.{told_operand, told_pair};
+ghost use Rattle.parser.specs.Answers.{told_token};
 ghost use Rattle.parser.specs.Operands.{nth, starts, operand, register_and_operand};
 
-use crate::registers::{Named, comma_register_at, register};
+use crate::registers::{comma_register_at, register};
 use base::Refusal;
 use instruction::{Operand, Register};
-use text::Immediate;
-
-// A register or an immediate, or why there is neither.
-#[derive(Clone, Copy)]
-pub enum Value {
-    Is(Operand),
-    Refused(Refusal),
-}
-
-// The two operands of MOV, of ADD to DIV, and of the compares.
-#[derive(Clone, Copy)]
-pub enum Pair {
-    Are(Register, Operand),
-    Refused(Refusal),
-}
 
 // Does it start with the byte b?
 pub fn starts(s: &[u8], b: u8) -> bool
     ensures { result ≡ starts b s.now }
 {
-    if s.len() == 0 {
-        return false;
+    match s {
+        [first, ..] => *first == b,
+        [] => false,
     }
-    s[0] == b
+}
+
+// Operand k as it stands, which a line may lack.
+#[tactic(auto, using(crate::proofs::OperandLaws::token_laws))]
+pub fn operand_token(line: &[u8], k: usize) -> Result<&[u8], Refusal>
+    ensures { told_token result ≡ nth k is (tokens line.now) }
+{
+    let t = text::token(line, k);
+    if t.is_empty() {
+        return Err(Refusal::InvalidOperands);
+    }
+    Ok(t)
 }
 
 // An immediate where it starts with `#`, else a register.
-fn operand(token: &[u8]) -> Value
-    ensures { told_operand result ≡ operand token.now }
+#[tactic(auto, unfolding(crate::specs::Operands::operand))]
+fn operand(token: &[u8]) -> Result<Operand, Refusal>
+    ensures { told result ≡ operand token.now }
 {
     if starts(token, b'#') {
-        let v = text::parse_immediate(token);
-        return match v {
-            Immediate::Is(n) => Value::Is(Operand::Imm(n)),
-            Immediate::Refused(e) => Value::Refused(e),
-        };
+        return Ok(Operand::Imm(text::parse_immediate(token)?));
     }
-    let n = register(token);
-    match n {
-        Named::Is(r) => Value::Is(Operand::Reg(r)),
-        Named::Refused(e) => Value::Refused(e),
-    }
+    Ok(Operand::Reg(register(token)?))
 }
 
 // Operand k as it stands: a register or an immediate.
-fn operand_at(line: &[u8], k: usize) -> Value
-    ensures { told_operand result ≡ nth k operand (tokens line.now) }
+#[tactic(auto, using(crate::proofs::OperandLaws::nth_read))]
+fn operand_at(line: &[u8], k: usize) -> Result<Operand, Refusal>
+    ensures { told result ≡ nth k operand (tokens line.now) }
 {
-    let t = text::token(line, k);
-    if t.len() == 0 {
-        return Value::Refused(Refusal::InvalidOperands);
-    }
-    operand(t)
+    operand(operand_token(line, k)?)
 }
 
 // The first operand, a register, and the second, a register or an immediate.
-pub fn register_and_operand(line: &[u8]) -> Pair
-    ensures { told_pair result ≡ register_and_operand (tokens line.now) }
+#[tactic(auto, unfolding(crate::specs::Operands::register_and_operand))]
+pub fn register_and_operand(line: &[u8]) -> Result<(Register, Operand), Refusal>
+    ensures { told result ≡ register_and_operand (tokens line.now) }
 {
-    let d = comma_register_at(line, 1);
-    match d {
-        Named::Is(r) => {
-            let v = operand_at(line, 2);
-            match v {
-                Value::Is(o) => Pair::Are(r, o),
-                Value::Refused(e) => Pair::Refused(e),
-            }
-        }
-        Named::Refused(e) => Pair::Refused(e),
-    }
+    let register = comma_register_at(line, 1)?;
+    let operand = operand_at(line, 2)?;
+    Ok((register, operand))
 }

@@ -1,30 +1,33 @@
 -- The tokens are counted, the first one says the kind, and the kind how many operands there may be. Assumes nothing.
-use Prim.Native.Nat.{◌-◌}
-use lib.ListN.{length}
-use mathlib.Core.Bool.{false, true}
-use mathlib.Core.Path.{◌∙◌, ◌≡◌, ap, sym}
+use Rattle.std.proofs.Common.{◌≡◌, ◌∙◌, length, ap, sym, arith}
+use Rattle.std.proofs.lemmas.Grind.{common_steps}
 use Rattle.mnemonics.specs.Mnemonics.{kind_of}
-use Rattle.parser.proofs.OperandLaws.{parse-none, parse-some}
-use Rattle.parser.specs.Parse.{meaning, takes}
-use Rattle.text.specs.Tokens.{token_at, tokens}
-use Rattle.mnemonics.specs.declared.Kind.{Kind}
+use Rattle.text.specs.Tokens.{tokens}
+use Rattle.parser.proofs.OperandLaws.{parse_none, parse_some}
 use Rattle.parser.proofs.lines.parse.Goals as goal
 
 pub returns-then-count-eq0 : goal.returns-then-count-eq0
-returns-then-count-eq0 c = let s = c.args.line.now in
-    let none : length (tokens s) ≡ 0 = sym c.count_tokens-count.ensures ∙ c.if-count-eq0.true in
-    sym (parse-none (tokens s) none)
+returns-then-count-eq0 c =
+    let none : length (tokens c.args.line.now) ≡ 0 = sym c.count_tokens-count.ensures ∙ c.if-count-eq0.true in
+    sym (parse_none (tokens c.args.line.now) none)
 
-pub returns-then-takes : goal.returns-then-takes
-returns-then-takes c = let s = c.args.line.now in
+pub returns-in_err-kind : goal.returns-in_err-kind
+returns-in_err-kind c =
+    let s = c.args.line.now in
     let some : length (tokens s) ≡ 0 → ⊥ = λ e. c.if-count-eq0.false (c.count_tokens-count.ensures ∙ e) in
-    let k : c.kind_of-kind.result ≡ kind_of (token_at s 0) = c.kind_of-kind.ensures ∙ ap kind_of c.token.ensures in
-    let t : takes (kind_of (token_at s 0)) (length (tokens s) - 1) ≡ true = rw (← k, ← c.count_tokens-count.ensures) (sym c.takes.ensures ∙ c.if-takes.true) in
-    c.parse_kind.ensures ∙ ap (λ (x : Kind). meaning x (tokens s)) k ∙ rw (parse-some (tokens s) some, t)
+    let k = parse_some s c.kind_of.result some (c.kind_of.ensures ∙ ap kind_of c.token.ensures) in
+    grind (arith, common_steps)
+
+pub returns-then-not-takes : goal.returns-then-not-takes
+returns-then-not-takes c =
+    let s = c.args.line.now in
+    let some : length (tokens s) ≡ 0 → ⊥ = λ e. c.if-count-eq0.false (c.count_tokens-count.ensures ∙ e) in
+    let k = parse_some s c.kind_of.result some (c.kind_of.ensures ∙ ap kind_of c.token.ensures) in
+    grind (arith, common_steps)
 
 pub returns : goal.returns
-returns c = let s = c.args.line.now in
+returns c =
+    let s = c.args.line.now in
     let some : length (tokens s) ≡ 0 → ⊥ = λ e. c.if-count-eq0.false (c.count_tokens-count.ensures ∙ e) in
-    let k : c.kind_of-kind.result ≡ kind_of (token_at s 0) = c.kind_of-kind.ensures ∙ ap kind_of c.token.ensures in
-    let t : takes (kind_of (token_at s 0)) (length (tokens s) - 1) ≡ false = rw (← k, ← c.count_tokens-count.ensures) (sym c.takes.ensures ∙ c.if-takes.false) in
-    rw (parse-some (tokens s) some, t)
+    let k = parse_some s c.kind_of.result some (c.kind_of.ensures ∙ ap kind_of c.token.ensures) in
+    grind (arith, common_steps)

@@ -1,8 +1,0 @@
--- One answer for each case. Assumes nothing.
-use Rattle.parser.proofs.forms.transferred.Goals as goal
-
-pub returns-then-byte : goal.returns-then-byte
-returns-then-byte c = rw c.if-byte.true
-
-pub returns-else-byte : goal.returns-else-byte
-returns-else-byte c = rw c.if-byte.false
