@@ -4,7 +4,7 @@ use Rattle.base.specs.Addresses.{reached}
 use Rattle.base.specs.Told.{is}
 use Rattle.instruction.specs.Decode.{decode, arm, arms}
 use Rattle.arithmetic.specs.Flags as flags
-use Rattle.map.specs.Tables.{sound}
+use Rattle.map.specs.Tables.{any, sound}
 use Rattle.map.specs.Regions.{region_is_set, used_regions, spare_regions, protected}
 use Rattle.map.specs.Devices.{device_is_set, used_devices, spare_devices, total}
 use Rattle.map.specs.Places.{place, place_from, in_linear, target, guard, somewhere}
@@ -27,7 +27,7 @@ use Rattle.journal.specs.Back as back
 use Rattle.journal.specs.Marked.{before, stored, restored}
 
 pub marked_step : step before ≡ result_of (is Continue) stored
-unfolding step valid next_in room machines.valid tables.valid tables.valid_regions spare_regions region_is_set sound used_regions
+unfolding step valid next_in room machines.valid tables.valid tables.valid_regions any spare_regions region_is_set sound used_regions
     tables.valid_devices spare_devices device_is_set used_devices total
     taken machine.step is_accepted machine.committed plan registers.flag registers.get flags.flag
     fetched read_word read_high joined read_byte place_in place place_from in_linear get bytes.read_in reached decoded decode arm arms
@@ -36,7 +36,7 @@ unfolding step valid next_in room machines.valid tables.valid tables.valid_regio
 marked_step = refl
 
 pub marked-back : back.step_back stored ≡ back.backed 0 restored
-unfolding back.step_back back.back_number back.back_order valid next_in room machines.valid tables.valid tables.valid_regions spare_regions region_is_set sound used_regions
+unfolding back.step_back back.back_number back.back_order valid next_in room machines.valid tables.valid tables.valid_regions any spare_regions region_is_set sound used_regions
     tables.valid_devices spare_devices device_is_set used_devices total
     back.fits back.used_by back.newest record_at records.decode words.words_from slot_before
     takes target_in place place_from in_linear target guard somewhere protected back.restored back.undone store_byte put
