@@ -4,6 +4,7 @@ ghost use Rattle.arithmetic.specs.Compares.{compare};
 
 use instruction::CompareOp;
 
+#[tactic(auto, unfolding(crate::specs::Compares::compare))]
 pub fn compare(op: CompareOp, a: u16, b: u16) -> bool
     ensures { result ≡ compare op a b }
 {

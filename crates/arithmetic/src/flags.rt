@@ -3,6 +3,7 @@ ghost use Rattle.std.specs.Prelude.{◌≡◌, ◌<◌};
 ghost use Rattle.arithmetic.specs.Flags.{flag, compared, failed};
 
 // Whether a bit is set.
+#[tactic(auto, unfolding(crate::specs::Flags::flag))]
 pub fn flag(flags: u16, bit: usize) -> bool
     requires { bit < 16 }
     ensures { result ≡ flag flags bit }
@@ -11,6 +12,7 @@ pub fn flag(flags: u16, bit: usize) -> bool
 }
 
 // What a comparison leaves: bit 3 set if it was true, else cleared.
+#[tactic(auto, unfolding(crate::specs::Flags::compared))]
 pub fn compared(flags: u16, yes: bool) -> u16
     ensures { result ≡ compared flags yes }
 {
@@ -18,6 +20,7 @@ pub fn compared(flags: u16, yes: bool) -> u16
 }
 
 // What a failed store leaves: bits 0 and 2 set.
+#[tactic(auto, unfolding(crate::specs::Flags::failed))]
 pub fn failed(flags: u16) -> u16
     ensures { result ≡ failed flags }
 {

@@ -9,6 +9,7 @@ use base::Refusal;
 use instruction::{ArithOp, ArithmeticOp};
 
 // Arith's.
+#[tactic(auto, unfolding(crate::specs::Operators::arith_result))]
 pub fn arith(op: ArithOp, a: u16, b: u16) -> Result<u16, Refusal>
     ensures { told result ≡ arith_result op a b }
 {
@@ -21,6 +22,7 @@ pub fn arith(op: ArithOp, a: u16, b: u16) -> Result<u16, Refusal>
 }
 
 // ArithRegReg's. A root is of the first number, and ignores the second.
+#[tactic(auto, unfolding(crate::specs::Operators::arithmetic_result))]
 pub fn arithmetic(op: ArithmeticOp, a: u16, b: u16) -> Result<u16, Refusal>
     ensures { told result ≡ arithmetic_result op a b }
 {

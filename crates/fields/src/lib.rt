@@ -5,16 +5,11 @@
 ghost use Rattle.std.specs.Prelude.{◌≡◌, ◌+◌, ◌<◌, ◌≤◌, ◌^◌};
 ghost use Rattle.fields.specs.Fields.{field_of, place_of};
 
-// 2 to the powers 0 to 15: a width or a position of a word picks one.
-const POWERS: [u16; 16] = [
-    1, 2, 4, 8, 16, 32, 64, 128, 256, 512, 1024, 2048, 4096, 8192, 16384, 32768,
-];
-
 pub fn power_of_two(k: usize) -> u16
     requires { k < 16 }
     ensures { result ≡ 2 ^ k }
 {
-    POWERS[k]
+    1 << k
 }
 
 // The `width` bits of `w` from bit `at` on.

@@ -1,14 +1,7 @@
--- Each list's last entry is also what stands past its end, and each number is the place of what it stands for: entry by entry.
--- Assumes nothing.
-use Prim.Native.Nat.{ℕ, suc, ◌<◌}
-use mathlib.Core.Path.{◌≡◌, refl, ap, sym, subst, ◌∙◌}
-use mathlib.Core.Bool.{Bool, true, false}
-use mathlib.Core.List.{List}
+-- Each number is the place of what it stands for in its list: entry by entry. Assumes nothing.
+use Prim.Native.Nat.{◌<◌}
+use mathlib.Core.Path.{◌≡◌, refl}
 use native.Mathlib.Omega.{arith}
-use lib.Dec.{eqb}
-use lib.ListN.{length, get_or}
-use borrow.Author.Tests.{eqb-true, eqb-false}
-use Rattle.base.proofs.Matches.{None, default}
 use Rattle.instruction.specs.Codes.{register_of, arith_of, arithmetic_of, compare_of, register_code, arith_code, arithmetic_code, compare_code}
 use Rattle.instruction.specs.declared.Register.{Register}
 use Rattle.instruction.specs.declared.Register.TheVariants.{A, B, C, M, SP, PC, BP, FLAGS}
@@ -16,14 +9,6 @@ use Rattle.instruction.specs.declared.ArithOp.{ArithOp}
 use Rattle.instruction.specs.declared.ArithmeticOp.{ArithmeticOp}
 use Rattle.instruction.specs.declared.CompareOp.{CompareOp}
 use Rattle.instruction.specs.declared.CompareOp.TheVariants.{Eq, NotEq, Less, LessEq, Greater, GreaterEq}
-
--- the last arm of a match answers with the last entry: it is taken for the last entry's number k and for all past it
-pub last : {A : Type 0} (xs : List A) (k : ℕ) (d : A) (n : ℕ) → length xs ≡ suc k → get_or xs k d ≡ d → None k n → d ≡ get_or xs n d
-last {A} xs k d n l e t = go (eqb n k) refl
-  where
-    go : (b : Bool) → eqb n k ≡ b → d ≡ get_or xs n d
-    go true q = sym (ap (λ (m : ℕ). get_or xs m d) (eqb-true n k q) ∙ e)
-    go false q = default xs d n (subst (λ (m : ℕ). None m n) (sym l) (t, eqb-false n k q))
 
 pub register-back : (r : Register) → register_of (register_code r) ≡ r
 register-back A = refl

@@ -1,5 +1,6 @@
 -- The word of an instruction: the low four bits, and each field masked to its width.
-use Rattle.std.specs.Prelude.{ℕ, ◌+◌, Bool, true, false}
+use Rattle.std.specs.Prelude.{ℕ, ◌+◌, Bool}
+use Rattle.std.specs.Int.{from_bool}
 use Rattle.fields.specs.Fields.{place_of}
 use Rattle.instruction.specs.Codes.{register_code, arith_code, arithmetic_code, compare_code}
 use Rattle.instruction.specs.declared.Register.{Register}
@@ -12,9 +13,9 @@ use Rattle.instruction.specs.declared.Instruction.TheVariants.{Noop, Mov, MovShi
 abbrev pub register_in : Register → ℕ → ℕ
 register_in r at = place_of (register_code r) at 3
 
+-- 1 for true
 abbrev pub bit : Bool → ℕ
-bit true = 1
-bit false = 0
+bit b = from_bool b
 
 -- the bit that says that an operand is a register, and the number that stands after it
 abbrev pub mode : Operand → ℕ

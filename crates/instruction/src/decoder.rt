@@ -2,7 +2,7 @@
 // The kinds of field are public for the machine, which acts on a word without making an Instruction of it.
 ghost use Rattle.std.specs.Prelude.{◌≡◌, ◌<◌, ◌≤◌};
 ghost use Rattle.fields.specs.Fields.{field_of};
-ghost use Rattle.base.specs.Told.{told};
+ghost use Rattle.base.specs.Told.{is, told};
 ghost use Rattle.instruction.specs.Decode.{register_at, bit_at, operand_at, jumps_always, arm, decode};
 
 use crate::codes::{arith_of, arithmetic_of, compare_of, register_of};
@@ -46,72 +46,92 @@ pub fn operand_at(w: u16, at: usize, width: usize) -> Operand
     }
 }
 
-fn mov(w: u16) -> Result<Instruction, Refusal>
-    ensures { told result ≡ arm w 1 }
+#[tactic(auto, unfolding(crate::specs::Decode::arm, crate::specs::Decode::arms))]
+fn mov(w: u16) -> Instruction
+    ensures { is result ≡ arm w 1 }
 {
-    Ok(Instruction::Mov(register_at(w, 4), operand_at(w, 7, 8)))
+    Instruction::Mov(register_at(w, 4), operand_at(w, 7, 8))
 }
 
-fn mov_shift(w: u16) -> Result<Instruction, Refusal>
-    ensures { told result ≡ arm w 2 }
+#[tactic(auto, unfolding(crate::specs::Decode::arm, crate::specs::Decode::arms))]
+fn mov_shift(w: u16) -> Instruction
+    ensures { is result ≡ arm w 2 }
 {
-    Ok(Instruction::MovShift(
+    Instruction::MovShift(
         register_at(w, 4),
         byte_at(w, 7, 3),
         bit_at(w, 10),
         field(w, 11, 5),
-    ))
+    )
 }
 
-fn arith(w: u16) -> Result<Instruction, Refusal>
-    ensures { told result ≡ arm w 3 }
+#[tactic(auto, unfolding(crate::specs::Decode::arm, crate::specs::Decode::arms))]
+fn arith(w: u16) -> Instruction
+    ensures { is result ≡ arm w 3 }
 {
-    Ok(Instruction::Arith(
+    Instruction::Arith(
         register_at(w, 4),
         operand_at(w, 9, 6),
         arith_of(field(w, 7, 2)),
-    ))
+    )
 }
 
-fn ldr_str(w: u16) -> Result<Instruction, Refusal>
-    ensures { told result ≡ arm w 4 }
+// LdrStr and LdbStb have the same fields.
+fn transfer(w: u16) -> (Register, Register, bool, u8)
+    ensures { result ≡ (register_at w 4, register_at w 7, bit_at w 10, field_of w 11 5) }
 {
-    Ok(Instruction::LdrStr(
+    (
         register_at(w, 4),
         register_at(w, 7),
         bit_at(w, 10),
         byte_at(w, 11, 5),
-    ))
+    )
+}
+
+#[tactic(auto, unfolding(crate::specs::Decode::arm, crate::specs::Decode::arms))]
+fn ldr_str(w: u16) -> Instruction
+    ensures { is result ≡ arm w 4 }
+{
+    let (r, a, store, shift) = transfer(w);
+    Instruction::LdrStr(r, a, store, shift)
+}
+
+#[tactic(auto, unfolding(crate::specs::Decode::arm, crate::specs::Decode::arms))]
+fn ldb_stb(w: u16) -> Instruction
+    ensures { is result ≡ arm w 8 }
+{
+    let (r, a, store, shift) = transfer(w);
+    Instruction::LdbStb(r, a, store, shift)
 }
 
 // 5 in register mode is a Jmp, as document 01 has it: no word says a CondJmp to a register. Only this function knows.
 pub fn jumps_always(o: Operand) -> bool
     ensures { result ≡ jumps_always o }
 {
-    match o {
-        Operand::Reg(_) => true,
-        Operand::Imm(_) => false,
-    }
+    matches!(o, Operand::Reg(_))
 }
 
-fn cond_jmp(w: u16) -> Result<Instruction, Refusal>
-    ensures { told result ≡ arm w 5 }
+#[tactic(auto, unfolding(crate::specs::Decode::arm, crate::specs::Decode::arms))]
+fn cond_jmp(w: u16) -> Instruction
+    ensures { is result ≡ arm w 5 }
 {
     let o = operand_at(w, 4, 11);
     if jumps_always(o) {
-        Ok(Instruction::Jmp(o))
+        Instruction::Jmp(o)
     } else {
-        Ok(Instruction::CondJmp(o))
+        Instruction::CondJmp(o)
     }
 }
 
-fn jmp(w: u16) -> Result<Instruction, Refusal>
-    ensures { told result ≡ arm w 6 }
+#[tactic(auto, unfolding(crate::specs::Decode::arm, crate::specs::Decode::arms))]
+fn jmp(w: u16) -> Instruction
+    ensures { is result ≡ arm w 6 }
 {
-    Ok(Instruction::Jmp(operand_at(w, 4, 11)))
+    Instruction::Jmp(operand_at(w, 4, 11))
 }
 
 // Six comparisons have a number; 6 and 7 are none.
+#[tactic(auto, unfolding(crate::specs::Decode::arm, crate::specs::Decode::arms))]
 fn cmp(w: u16) -> Result<Instruction, Refusal>
     ensures { told result ≡ arm w 7 }
 {
@@ -123,24 +143,15 @@ fn cmp(w: u16) -> Result<Instruction, Refusal>
     }
 }
 
-fn ldb_stb(w: u16) -> Result<Instruction, Refusal>
-    ensures { told result ≡ arm w 8 }
+#[tactic(auto, unfolding(crate::specs::Decode::arm, crate::specs::Decode::arms))]
+fn cpy(w: u16) -> Instruction
+    ensures { is result ≡ arm w 9 }
 {
-    Ok(Instruction::LdbStb(
-        register_at(w, 4),
-        register_at(w, 7),
-        bit_at(w, 10),
-        byte_at(w, 11, 5),
-    ))
-}
-
-fn cpy(w: u16) -> Result<Instruction, Refusal>
-    ensures { told result ≡ arm w 9 }
-{
-    Ok(Instruction::Cpy(register_at(w, 4), register_at(w, 7)))
+    Instruction::Cpy(register_at(w, 4), register_at(w, 7))
 }
 
 // Seven operators have a number; 7 is none.
+#[tactic(auto, unfolding(crate::specs::Decode::arm, crate::specs::Decode::arms))]
 fn arith_reg_reg(w: u16) -> Result<Instruction, Refusal>
     ensures { told result ≡ arm w 10 }
 {
@@ -157,28 +168,30 @@ fn arith_reg_reg(w: u16) -> Result<Instruction, Refusal>
     }
 }
 
-fn call_ret(w: u16) -> Result<Instruction, Refusal>
-    ensures { told result ≡ arm w 11 }
+#[tactic(auto, unfolding(crate::specs::Decode::arm, crate::specs::Decode::arms))]
+fn call_ret(w: u16) -> Instruction
+    ensures { is result ≡ arm w 11 }
 {
-    Ok(Instruction::CallRet(bit_at(w, 4), field(w, 5, 11)))
+    Instruction::CallRet(bit_at(w, 4), field(w, 5, 11))
 }
 
+#[tactic(auto, unfolding(crate::specs::Decode::decode, crate::specs::Decode::arm, crate::specs::Decode::arms))]
 pub fn decode(w: u16) -> Result<Instruction, Refusal>
     ensures { told result ≡ decode w }
 {
     match field(w, 0, 4) {
         0 => Ok(Instruction::Noop),
-        1 => mov(w),
-        2 => mov_shift(w),
-        3 => arith(w),
-        4 => ldr_str(w),
-        5 => cond_jmp(w),
-        6 => jmp(w),
+        1 => Ok(mov(w)),
+        2 => Ok(mov_shift(w)),
+        3 => Ok(arith(w)),
+        4 => Ok(ldr_str(w)),
+        5 => Ok(cond_jmp(w)),
+        6 => Ok(jmp(w)),
         7 => cmp(w),
-        8 => ldb_stb(w),
-        9 => cpy(w),
+        8 => Ok(ldb_stb(w)),
+        9 => Ok(cpy(w)),
         10 => arith_reg_reg(w),
-        11 => call_ret(w),
+        11 => Ok(call_ret(w)),
         _ => Err(Refusal::BadOpcode),
     }
 }

@@ -10,6 +10,7 @@ use base::Refusal;
 use fields::field;
 
 // 5 is a CondJmp in both modes, so that every instruction whose fields fit decodes back.
+#[tactic(auto, unfolding(crate::specs::Editions::decode_in))]
 fn decode_second(w: u16) -> Result<Instruction, Refusal>
     ensures { told result ≡ decode_in Second w }
 {
@@ -19,6 +20,7 @@ fn decode_second(w: u16) -> Result<Instruction, Refusal>
     decode(w)
 }
 
+#[tactic(auto, unfolding(crate::specs::Editions::decode_in))]
 pub fn decode_in(e: Edition, w: u16) -> Result<Instruction, Refusal>
     ensures { told result ≡ decode_in e w }
 {

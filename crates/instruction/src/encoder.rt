@@ -8,12 +8,6 @@ ghost use Rattle.instruction.specs.declared.Instruction.TheVariants.{Mov, MovShi
 use crate::{ArithOp, ArithmeticOp, CompareOp, Instruction, Operand, Register};
 use fields::place;
 
-fn bit_of(b: bool) -> u16
-    ensures { result ≡ bit b }
-{
-    if b { 1 } else { 0 }
-}
-
 // The bit that says that an operand is a register.
 fn mode_of(o: Operand) -> u16
     ensures { result ≡ mode o }
@@ -45,7 +39,7 @@ fn mov_shift_word(r: Register, amount: u8, left: bool, v: u16) -> u16
 {
     2 + place(u16::from(r), 4, 3)
         + place(amount as u16, 7, 3)
-        + place(bit_of(left), 10, 1)
+        + place(u16::from(left), 10, 1)
         + place(v, 11, 5)
 }
 
@@ -65,7 +59,7 @@ fn transfer_word(op: u16, r: Register, a: Register, store: bool, shift: u8) -> u
 {
     op + place(u16::from(r), 4, 3)
         + place(u16::from(a), 7, 3)
-        + place(bit_of(store), 10, 1)
+        + place(u16::from(store), 10, 1)
         + place(shift as u16, 11, 5)
 }
 
@@ -104,7 +98,7 @@ fn arith_reg_reg_word(d: Register, a: Register, b: Register, k: ArithmeticOp) ->
 fn call_ret_word(ret: bool, address: u16) -> u16
     ensures { result ≡ encode (CallRet ret address) }
 {
-    11 + place(bit_of(ret), 4, 1) + place(address, 5, 11)
+    11 + place(u16::from(ret), 4, 1) + place(address, 5, 11)
 }
 
 pub fn encode(i: Instruction) -> u16

@@ -1,6 +1,6 @@
 // Whether decoding ever answers with an instruction, and whether a line says it.
 ghost use Rattle.std.specs.Prelude.{◌≡◌};
-ghost use Rattle.instruction.specs.Fits.{decodable, plain_return, sayable};
+ghost use Rattle.instruction.specs.Fits.{decodable, sayable};
 
 use crate::Instruction;
 use crate::decoder::jumps_always;
@@ -10,25 +10,9 @@ pub fn decodable(i: Instruction) -> bool
     ensures { result ≡ decodable i }
 {
     match i {
-        Instruction::Noop => true,
-        Instruction::Mov(_, _) => true,
-        Instruction::MovShift(_, _, _, _) => true,
-        Instruction::Arith(_, _, _) => true,
-        Instruction::ArithRegReg(_, _, _, _) => true,
-        Instruction::LdrStr(_, _, _, _) => true,
-        Instruction::LdbStb(_, _, _, _) => true,
-        Instruction::Cpy(_, _) => true,
-        Instruction::Jmp(_) => true,
         Instruction::CondJmp(o) => !jumps_always(o),
-        Instruction::Cmp(_, _, _) => true,
-        Instruction::CallRet(_, _) => true,
+        _ => true,
     }
-}
-
-fn plain_return(ret: bool, address: u16) -> bool
-    ensures { result ≡ plain_return ret address }
-{
-    if ret { address == 0 } else { true }
 }
 
 // Text for words asks this, and refuses with 33.
@@ -36,17 +20,7 @@ pub fn sayable(i: Instruction) -> bool
     ensures { result ≡ sayable i }
 {
     match i {
-        Instruction::Noop => true,
-        Instruction::Mov(_, _) => true,
-        Instruction::MovShift(_, _, _, _) => true,
-        Instruction::Arith(_, _, _) => true,
-        Instruction::ArithRegReg(_, _, _, _) => true,
-        Instruction::LdrStr(_, _, _, _) => true,
-        Instruction::LdbStb(_, _, _, _) => true,
-        Instruction::Cpy(_, _) => true,
-        Instruction::Jmp(_) => true,
-        Instruction::CondJmp(_) => true,
-        Instruction::Cmp(_, _, _) => true,
-        Instruction::CallRet(ret, address) => plain_return(ret, address),
+        Instruction::CallRet(ret, address) => !ret || address == 0,
+        _ => true,
     }
 }

@@ -27,11 +27,7 @@ fn operand_fits(o: Operand, width: usize) -> bool
 fn shift_fits(amount: u8, v: u16) -> bool
     ensures { result ≡ within 3 amount && within 5 v }
 {
-    if has_width(amount as u16, 3) {
-        has_width(v, 5)
-    } else {
-        false
-    }
+    has_width(amount as u16, 3) && has_width(v, 5)
 }
 
 // Encoding masks a number that does not fit. Strict assembly asks this first, and refuses with 30.

@@ -8,8 +8,8 @@ use native.Mathlib.Omega.{arith}
 use mathlib.Core.Bool.{Bool, true, false}
 use borrow.Author.Tests.{lt-ltb, ltb-true, ltb-false}
 use lib.Dec.{ltb}
-use lib.ListN.{length, drop, get_or, set, drop_of_length-le}
-use lib.Seq.{drop-cons, set_out, sets}
+use lib.ListN.{length, set}
+use lib.Seq.{set_out, sets}
 use Rattle.base.specs.Choice.{cond}
 use Rattle.printer.specs.Print.{placed}
 use Rattle.printer.proofs.Laws.{placed-sets}

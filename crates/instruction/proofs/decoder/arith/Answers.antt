@@ -1,7 +1,0 @@
--- Each field is the one that the table's arm has. Assumes nothing.
-use Rattle.instruction.specs.Decode.{arm, arms}
-use Rattle.instruction.proofs.decoder.arith.Goals as goal
-
-pub returns : goal.returns
-unfolding arm arms
-returns c = rw (c.register_at.ensures, c.operand_at.ensures, c.arith_of.ensures, c.field.ensures)

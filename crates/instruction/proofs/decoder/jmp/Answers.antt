@@ -1,7 +1,0 @@
--- Each field is the one that the table's arm has. Assumes nothing.
-use Rattle.instruction.specs.Decode.{arm, arms}
-use Rattle.instruction.proofs.decoder.jmp.Goals as goal
-
-pub returns : goal.returns
-unfolding arm arms
-returns c = rw c.operand_at.ensures
