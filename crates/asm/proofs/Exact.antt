@@ -20,7 +20,7 @@ use Rattle.parser.specs.References.{resolved}
 use Rattle.labels.specs.declared.Label.{Label}
 use Rattle.labels.specs.declared.Open.{Open}
 use Rattle.labels.specs.declared.Found.{Found}
-use Rattle.labels.specs.declared.Found.TheVariants.{Nothing, At}
+use Rattle.std.specs.Prelude.{Option, Some, None}
 use Rattle.labels.specs.Labels.{names, find}
 use Rattle.labels.specs.Labels as Labels
 use Rattle.labels.specs.Opens.{open_to}
@@ -137,10 +137,10 @@ module _ (text : List ℕ) (room labels : ℕ) where
       known : leads_to w.labels (find text name w.labels) ≡ latest text name before
       known = found-latest text name w.labels ∙ h.labels name
 
-      go : (f : Found) → leads_to w.labels f ≡ latest text name before → Sayable (refer r (either (latest text name before) later) ∷ ms) →
+      go : (f : Option Found) → leads_to w.labels f ≡ latest text name before → Sayable (refer r (either (latest text name before) later) ∷ ms) →
           refers_to (ruled true) r place size w f ≡ refers_to (ruled false) r place size w f
-      go (At i a) q s = says_same (resolved r a) w (subst (λ (x : Told ℕ). Sayable (refer r (either x later) ∷ ms)) (sym q) s).0
-      go Nothing q s = refl
+      go (Some f) q s = says_same (resolved r f.address) w (subst (λ (x : Told ℕ). Sayable (refer r (either x later) ∷ ms)) (sym q) s).0
+      go None q s = refl
 
   label_same : (place size n : ℕ) (before : List Label) (slots : List Slot) (w : Work) → Holds n before slots w →
       AllFine (map (becomes text (part text place size) (doubled (length w.words))) slots) →

@@ -1,9 +1,10 @@
 -- Zeros one after another: what is left of an array, filled up from i on, stays the same when a zero is put at i. Assumes nothing.
 use Prim.Native.Nat.{◌+◌, ◌-◌, ◌<◌, ◌≤◌, suc, ℕ}
-use lib.ListN.{length, length-append, length-replicate, length-set, replicate, replicate-append-replicate, set, take}
+use borrow.Rule.Slice.PartMut.{mid_of, put_mid, post_of}
+use lib.ListN.{drop, drop_of_length-le, length, length-append, length-drop, length-take, length-replicate, length-set, replicate, replicate-append-replicate, set, take}
 use lib.Seq.{length-take-le, take_all, take-append_seam}
 use mathlib.Core.List.{List, [], ◌++◌, ◌∷◌, append_assoc, append-nil}
-use mathlib.Core.Path.{◌∙◌, ◌≡◌, refl, sym}
+use mathlib.Core.Path.{◌∙◌, ◌≡◌, ap, refl, sym}
 use native.Mathlib.Numerals.{add-one}
 use native.Mathlib.Omega.{arith}
 use Rattle.asm.specs.Assemble.{filled}
@@ -24,6 +25,15 @@ module _ (xs : List ℕ) (i : ℕ) where
   clear-end h =
       let z : length xs - length xs ≡ 0 = omega arith in
       rw (take_all i xs h, z) (append-nil xs)
+
+  -- the rest filled at once
+  pub clear-rest : i ≤ length xs → (zeros : List ℕ) → zeros ≡ replicate (length (mid_of i (length xs - i) xs)) 0 → put_mid i (length xs - i) xs zeros ≡ filled (length xs) (take i xs)
+  unfolding filled
+  clear-rest h zeros e =
+      let l : length (take i xs) ≡ i = length-take-le i xs h in
+      let size : length (mid_of i (length xs - i) xs) ≡ length xs - i = omega (arith, length-take (length xs - i) (drop i xs), length-drop i xs) in
+      let rest : post_of i (length xs - i) xs ≡ [] = drop_of_length-le (drop i xs) (omega (arith, length-drop i xs)) in
+      rw (l, e, size, rest) (ap (λ (zs : List ℕ). take i xs ++ zs) (append-nil (replicate (length xs - i) 0)))
 
 -- ---- for the crates above: the numbers come first, and there is room for them
 

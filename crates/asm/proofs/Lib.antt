@@ -3,7 +3,6 @@ pub mod WordLaws
 pub mod LabelLaws
 pub mod PatchLaws
 pub mod TurnLaws
-pub mod DoneLaws
 pub mod ReadLaws
 pub mod FillLaws
 pub mod LineLaws

@@ -17,7 +17,7 @@ use Rattle.parser.specs.declared.Reference.{Reference}
 use Rattle.parser.specs.References.{resolved}
 use Rattle.labels.specs.declared.Label.{Label}
 use Rattle.labels.specs.declared.Found.{Found}
-use Rattle.labels.specs.declared.Found.TheVariants.{Nothing, At}
+use Rattle.std.specs.Prelude.{Option, Some, None}
 use Rattle.labels.specs.Labels.{find}
 use Rattle.labels.specs.Labels as Labels
 use Rattle.labels.specs.Opens.{open_to}
@@ -99,14 +99,14 @@ module _ (t : Task) where
         known : leads_to w.labels (find t.text name w.labels) ≡ latest t.text name before
         known = found-latest t.text name w.labels ∙ h.labels name
 
-        go : (f : Found) → leads_to w.labels f ≡ latest t.text name before → refers_to t r place size w f ≡ is v → Referred r name
-        go (At i a) q e =
+        go : (f : Option Found) → leads_to w.labels f ≡ latest t.text name before → refers_to t r place size w f ≡ is v → Referred r name
+        go (Some known-label) q e =
             record {
-              slot = done (resolved r a);
-              holds = holds-says (resolved r a) e;
+              slot = done (resolved r known-label.address);
+              holds = holds-says (resolved r known-label.address) e;
               means = λ f. ap (λ (x : Told ℕ). refer r (either x (f name))) q;
             }
-        go Nothing q e =
+        go None q e =
             record {
               slot = waits r place size;
               holds = holds-opens r place size l e;

@@ -11,28 +11,16 @@ use native.Mathlib.Nat.{sub-zero}
 use native.Mathlib.Numerals.{add-one}
 use native.Mathlib.Omega.{arith}
 use Rattle.asm.specs.Labels.{Patched, add_open, keep, patch, patched_of}
-use Rattle.asm.specs.Views.{Kept, kept_of, left, patch_one, patch_this, put, stepped}
+use Rattle.asm.specs.Views.{Kept, kept_of, patch_one, patch_this}
 use Rattle.asm.specs.Words.{word_of}
-use Rattle.base.proofs.ToldLaws.{is-not-no, is_one, no_one}
+use Rattle.base.proofs.ToldLaws.{is-not-no, is_one}
 use Rattle.base.specs.Choice.{cond}
-use Rattle.base.specs.Numbers.{number_of}
 use Rattle.base.specs.Told.{Told, is, no, ◌>>=◌}
-use Rattle.labels.proofs.Laws.{opens-length, opens-set}
 use Rattle.labels.proofs.ListLaws.{drop-next, take-set, take_snoc}
 use Rattle.labels.specs.Labels.{names}
-use Rattle.labels.specs.Opens.{no_open, opens_of, reference_code}
+use Rattle.labels.specs.Opens.{no_open}
 use Rattle.parser.specs.References.{resolved}
 use Rattle.labels.specs.declared.Open.{Open}
-use Rattle.asm.specs.declared.patching.Left.{Left}
-
-pub opens-stored : (ps ls ws rs ps' ls' ws' rs' : List ℕ) (i : ℕ) (o : Open) → ps' ≡ set ps i o.place → ls' ≡ set ls i o.length → ws' ≡ set ws i o.word.0 →
-    rs' ≡ set rs i (reference_code o.reference) → opens_of ps' ls' ws' rs' ≡ set (opens_of ps ls ws rs) i o
-opens-stored ps ls ws rs ps' ls' ws' rs' i o p q r s = rw (p, q, r, s) (opens-set ps ls ws rs i o.place o.length o.word.0 o.reference)
-
--- arrays of one length have as many entries
-pub opens-same : (ps ls ws rs ps' ls' ws' rs' : List ℕ) → length ps' ≡ length ps → length ls' ≡ length ls → length ws' ≡ length ws → length rs' ≡ length rs →
-    length (opens_of ps' ls' ws' rs') ≡ length (opens_of ps ls ws rs)
-opens-same ps ls ws rs ps' ls' ws' rs' p q r s = opens-length ps' ls' ws' rs' ∙ rw (p, q, r, s) (sym (opens-length ps ls ws rs))
 
 -- one more
 module _ (waiting : List Open) (count : ℕ) (o : Open) (h : 512 ≤ length waiting) where
@@ -168,26 +156,25 @@ module _ (strict : Bool) (text name : List ℕ) (address : ℕ) where
       go true ih1 ih2 = settled (word_of strict (resolved o.reference address)) ih1
       go false ih1 ih2 = kept (patch strict text name address waiting (take n words)) (patch strict text name address waiting words) ih2
 
--- one open reference, as the code looks at it
-module _ (strict : Bool) (text name : List ℕ) (address : ℕ) where
-  pub patch-this : (i kept : ℕ) (words : List ℕ) (waiting : List Open) (o : Open) → o ≡ get_or waiting i no_open →
-      patch_this strict text name address o kept words waiting ≡ patch_one strict text name address i kept words waiting
+-- one open reference, as the code looks at it: it waits for the name, and its word is put or refused; or it is kept
+module _ (strict : Bool) (text name : List ℕ) (address i kept : ℕ) (words : List ℕ) (waiting : List Open) where
+  abbrev this : Open
+  this = get_or waiting i no_open
+
+  abbrev its_word : Told ℕ
+  its_word = word_of strict (resolved this.reference address)
+
+  pub patch-hit : names text this.place this.length name ≡ true → (w : ℕ) → is w ≡ its_word →
+      is (kept_of kept (set words this.word.0 w) waiting) ≡ patch_one strict text name address i kept words waiting
   unfolding patch_one
-  patch-this i kept words waiting o e = ap (λ (x : Open). patch_this strict text name address x kept words waiting) e
+  patch-hit t w e = rw (t, ← e)
 
-  module _ (kept : ℕ) (words : List ℕ) where
-    pub patch-hit : (words' : List ℕ) (waiting : List Open) (o : Open) (l : Left) → names text o.place o.length name ≡ true →
-        left l ≡ ◌>>=◌ (word_of strict (resolved o.reference address)) (λ w. is kept) → words' ≡ put (word_of strict (resolved o.reference address)) o.word.0 words →
-        stepped l words' waiting ≡ patch_this strict text name address o kept words waiting
-    patch-hit words' waiting o l t e q = rw (t, q) (go l (word_of strict (resolved o.reference address)) e)
-      where
-        go : (l : Left) (x : Told ℕ) → left l ≡ ◌>>=◌ x (λ w. is kept) →
-            stepped l (put x o.word.0 words) waiting ≡ ◌>>=◌ x (λ w. is (kept_of kept (set words o.word.0 w) waiting))
-        go (Left.Count n) (is w) e = ap (λ (k : ℕ). is (kept_of k (set words o.word.0 w) waiting)) (is_one n kept e)
-        go (Left.Count n) (no k) e = is-not-no n k e
-        go (Left.Refused r) (is w) e = is-not-no kept (number_of r) (sym e)
-        go (Left.Refused r) (no k) e = ap (λ (n : ℕ). no n) (no_one (number_of r) k e)
+  pub patch-refused : names text this.place this.length name ≡ true → (n : ℕ) → no n ≡ its_word →
+      no n ≡ patch_one strict text name address i kept words waiting
+  unfolding patch_one
+  patch-refused t n e = rw (t, ← e)
 
-    pub patch-miss : (waiting : List Open) (o : Open) → names text o.place o.length name ≡ false →
-        is (kept_of (kept + 1) words (set waiting kept o)) ≡ patch_this strict text name address o kept words waiting
-    patch-miss waiting o t = rw t
+  pub patch-miss : names text this.place this.length name ≡ false →
+      is (kept_of (kept + 1) words (set waiting kept this)) ≡ patch_one strict text name address i kept words waiting
+  unfolding patch_one
+  patch-miss t = rw t

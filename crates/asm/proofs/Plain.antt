@@ -19,7 +19,7 @@ use Rattle.parser.specs.References.{resolved}
 use Rattle.labels.specs.declared.Label.{Label}
 use Rattle.labels.specs.declared.Open.{Open}
 use Rattle.labels.specs.declared.Found.{Found}
-use Rattle.labels.specs.declared.Found.TheVariants.{Nothing, At}
+use Rattle.std.specs.Prelude.{Option, Some, None}
 use Rattle.labels.specs.Labels.{names, find, label}
 use Rattle.asm.specs.Words.{strict_order, strict_word, word_of, add_word, add_instruction}
 use Rattle.asm.specs.Labels.{part, define, Patched, keep, patch}
@@ -89,9 +89,9 @@ module _ (text : List ℕ) (room labels : ℕ) where
   unfolding references opens
   references-alike r place size w = go (find text (part text place size) w.labels)
     where
-      go : (f : Found) → Alike (refers_to (ruled true) r place size w f) (refers_to (ruled false) r place size w f)
-      go (At i a) = says-alike (resolved r a) w
-      go Nothing = inl refl
+      go : (f : Option Found) → Alike (refers_to (ruled true) r place size w f) (refers_to (ruled false) r place size w f)
+      go (Some f) = says-alike (resolved r f.address) w
+      go None = inl refl
 
   label-alike : (place size : ℕ) (w : Work) → Alike (labelled (ruled true) place size w) (labelled (ruled false) place size w)
   unfolding labelled

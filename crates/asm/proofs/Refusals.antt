@@ -30,7 +30,7 @@ use Rattle.parser.proofs.NumberLaws.{Fair, parse-fair}
 use Rattle.labels.specs.declared.Label.{Label}
 use Rattle.labels.specs.declared.Open.{Open}
 use Rattle.labels.specs.declared.Found.{Found}
-use Rattle.labels.specs.declared.Found.TheVariants.{Nothing, At}
+use Rattle.std.specs.Prelude.{Option, Some, None}
 use Rattle.labels.specs.Labels.{names, find, label}
 use Rattle.labels.specs.Opens.{open_to}
 use Rattle.asm.specs.Words.{strict_order, strict_word, word_of, add_word, add_instruction}
@@ -97,9 +97,9 @@ module _ (t : Task) (w : Work) where
   unfolding references
   references-numbered r place size = go (find t.text (part t.text place size) w.labels)
     where
-      go : (f : Found) → Numbered 20 30 (refers_to t r place size w f)
-      go (At i a) = says-numbered (resolved r a) (λ e. resolved-decodable r a)
-      go Nothing = opens-numbered (open_to place size (length w.words) r)
+      go : (f : Option Found) → Numbered 20 30 (refers_to t r place size w f)
+      go (Some f) = says-numbered (resolved r f.address) (λ e. resolved-decodable r f.address)
+      go None = opens-numbered (open_to place size (length w.words) r)
 
   pub label-numbered : (place size : ℕ) → Numbered 20 30 (labelled t place size w)
   unfolding labelled define
@@ -113,9 +113,9 @@ module _ (t : Task) (w : Work) where
       (λ labels. then-numbered 20 30 patches (λ p. is (work p.words labels p.waiting))
       (patch-numbered t.strict t.text name l.address w.waiting w.words) (λ p. tt))
     where
-      go : (f : Found) → Numbered 20 30 (entered t.label_room (label place size (doubled (length w.words))) w.labels f)
-      go (At i a) = tt
-      go Nothing = or-numbered (ltb (length w.labels) t.label_room) (w.labels ++ label place size (doubled (length w.words)) ∷ []) 27 20 30 (omega arith, omega arith)
+      go : (f : Option Found) → Numbered 20 30 (entered t.label_room (label place size (doubled (length w.words))) w.labels f)
+      go (Some f) = tt
+      go None = or-numbered (ltb (length w.labels) t.label_room) (w.labels ++ label place size (doubled (length w.words)) ∷ []) 27 20 30 (omega arith, omega arith)
 
 -- ---- reading
 

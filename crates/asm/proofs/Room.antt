@@ -19,7 +19,7 @@ use Rattle.parser.specs.References.{resolved}
 use Rattle.labels.specs.declared.Label.{Label}
 use Rattle.labels.specs.declared.Open.{Open}
 use Rattle.labels.specs.declared.Found.{Found}
-use Rattle.labels.specs.declared.Found.TheVariants.{Nothing, At}
+use Rattle.std.specs.Prelude.{Option, Some, None}
 use Rattle.labels.specs.Labels.{names, find, label}
 use Rattle.labels.specs.Opens.{open_to}
 use Rattle.asm.specs.Words.{word_of, add_word, add_instruction}
@@ -85,9 +85,9 @@ defined : (text : List ℕ) (room : ℕ) (l : Label) (labels : List Label) → l
 unfolding define
 defined text room l labels h = go (find text (part text l.place l.length) labels)
   where
-    go : (f : Found) → (new : List Label) × (entered room l labels f ≡ is new) × (length new ≤ length labels + 1)
-    go (At i a) = (set labels i l, refl, omega (arith, length-set labels i l))
-    go Nothing = (labels ++ l ∷ [], rw (lt-ltb (length labels) room h), omega (arith, length-append labels (l ∷ [])))
+    go : (f : Option Found) → (new : List Label) × (entered room l labels f ≡ is new) × (length new ≤ length labels + 1)
+    go (Some f) = (set labels f.index l, refl, omega (arith, length-set labels f.index l))
+    go None = (labels ++ l ∷ [], rw (lt-ltb (length labels) room h), omega (arith, length-append labels (l ∷ [])))
 
 -- as many words, and no more references open
 abbrev Patches : Told Patched → List Open → List ℕ → Type 0
@@ -148,9 +148,9 @@ module _ (text : List ℕ) (word_room label_room total : ℕ) where
     unfolding references
     references-goes q place size w h = go (find text (part text place size) w.labels)
       where
-        go : (f : Found) → Goes (refers_to t q place size w f)
-        go (At i a) = says-goes (resolved q a) w (h.0, h.1, omega (arith, h.2))
-        go Nothing = opens-goes (open_to place size (length w.words) q) w h
+        go : (f : Option Found) → Goes (refers_to t q place size w f)
+        go (Some f) = says-goes (resolved q f.address) w (h.0, h.1, omega (arith, h.2))
+        go None = opens-goes (open_to place size (length w.words) q) w h
 
     label-goes : (place size : ℕ) (w : Work) → Has (0 + m) (1 + k) (0 + r) w → Goes (labelled t place size w)
     unfolding labelled

@@ -19,7 +19,7 @@ use Rattle.parser.specs.References.{resolved}
 use Rattle.labels.specs.declared.Label.{Label}
 use Rattle.labels.specs.declared.Open.{Open}
 use Rattle.labels.specs.declared.Found.{Found}
-use Rattle.labels.specs.declared.Found.TheVariants.{Nothing, At}
+use Rattle.std.specs.Prelude.{Option, Some, None}
 use Rattle.labels.specs.Labels.{names, find}
 use Rattle.labels.specs.Labels as Labels
 use Rattle.labels.specs.Opens.{open_to}
@@ -81,9 +81,9 @@ module _ (strict : Bool) (text : List ℕ) (room labels : ℕ) where
   unfolding references
   references-room r place size w = go (find text (part text place size) w.labels)
     where
-      go : (f : Found) → refers_to given r place size w f ≡ refers_to least r place size w f
-      go (At i a) = says-room (resolved r a) w
-      go Nothing = opens-room (open_to place size (length w.words) r) w
+      go : (f : Option Found) → refers_to given r place size w f ≡ refers_to least r place size w f
+      go (Some f) = says-room (resolved r f.address) w
+      go None = opens-room (open_to place size (length w.words) r) w
 
   labelled-room : (place size : ℕ) (w : Work) → labelled given place size w ≡ labelled least place size w
   unfolding labelled
@@ -155,9 +155,9 @@ define-most : (text : List ℕ) (room : ℕ) (l : Label) (labels : List Label) �
 unfolding define
 define-most text room l labels h = go (find text (part text l.place l.length) labels)
   where
-    go : (f : Found) → Each (λ (new : List Label). length new ≤ room) (entered room l labels f)
-    go (At i a) = omega (arith, h, length-set labels i l)
-    go Nothing =
+    go : (f : Option Found) → Each (λ (new : List Label). length new ≤ room) (entered room l labels f)
+    go (Some f) = omega (arith, h, length-set labels f.index l)
+    go None =
         each_chosen (λ (new : List Label). length new ≤ room) (ltb (length labels) room) (labels ++ l ∷ []) 27
         (λ e. omega (arith, ltb-true (length labels) room e, length-append labels (l ∷ [])))
 
@@ -215,9 +215,9 @@ module _ (t : Task) where
   unfolding references
   references-within r place size w h = go (find t.text (part t.text place size) w.labels)
     where
-      go : (f : Found) → Each Within (refers_to t r place size w f)
-      go (At i a) = says-within (resolved r a) w h
-      go Nothing = opens-within (open_to place size (length w.words) r) w h
+      go : (f : Option Found) → Each Within (refers_to t r place size w f)
+      go (Some f) = says-within (resolved r f.address) w h
+      go None = opens-within (open_to place size (length w.words) r) w h
 
   label-within : (l : Label) (w : Work) → Within w → Each Within (labels_at t l w)
   label-within l w h =

@@ -16,7 +16,7 @@ use Rattle.base.proofs.SameLaws.{same_self, same-equal}
 use Rattle.base.proofs.ToldLaws.{is-not-no, is_one}
 use Rattle.labels.specs.declared.Label.{Label}
 use Rattle.labels.specs.declared.Found.{Found}
-use Rattle.labels.specs.declared.Found.TheVariants.{Nothing, At}
+use Rattle.std.specs.Prelude.{Option, Some, None}
 use Rattle.labels.specs.Labels.{names, is_named, find}
 use Rattle.labels.proofs.Laws.{find-lt, find-named, find_first}
 use Rattle.labels.proofs.FindLaws.{behind, find_none, find-here, find-behind}
@@ -51,9 +51,9 @@ module _ (text : List ℕ) where
   found-latest name [] = ap (leads_to []) (find_none text name)
   found-latest name (l ∷ ls) = go (is_named text name l) refl (found-latest name ls)
     where
-      later : (f : Found) → leads_to (l ∷ ls) (behind f) ≡ leads_to ls f
-      later Nothing = refl
-      later (At i a) = refl
+      later : (f : Option Found) → leads_to (l ∷ ls) (behind f) ≡ leads_to ls f
+      later None = refl
+      later (Some f) = refl
 
       go : (t : Bool) → is_named text name l ≡ t → leads_to ls (find text name ls) ≡ latest text name ls →
           leads_to (l ∷ ls) (find text name (l ∷ ls)) ≡ cond (is_named text name l) (is l.address) (latest text name ls)
@@ -112,13 +112,13 @@ module _ (text : List ℕ) where
       has : name ≡ own → is_named text name l ≡ true
       has q = ap (λ (x : List ℕ). is_named text x l) q ∙ named_self l.place l.length h
 
-      none : find text own ls ≡ Nothing → latest text own ls ≡ no 25
+      none : find text own ls ≡ None → latest text own ls ≡ no 25
       none q = sym (found-latest own ls) ∙ ap (leads_to ls) q
 
-      go : (f : Found) → find text own ls ≡ f → entered room l ls f ≡ is new → latest text name new ≡ latest text name (l ∷ ls)
-      go (At i a) q r =
-          ap (latest text name) (sym (is_one (set ls i l) new r)) ∙
-          replaced name own l l only has ls i (find-lt text own ls i a q) (find-named text own ls i a q l) (λ j k. find_first text own ls i a q j l k)
-      go Nothing q r =
+      go : (f : Option Found) → find text own ls ≡ f → entered room l ls f ≡ is new → latest text name new ≡ latest text name (l ∷ ls)
+      go (Some f) q r =
+          ap (latest text name) (sym (is_one (set ls f.index l) new r)) ∙
+          replaced name own l l only has ls f.index (find-lt text own ls f.index f.address q) (find-named text own ls f.index f.address q l) (λ j k. find_first text own ls f.index f.address q j l k)
+      go None q r =
           ap (latest text name) (chosen (ltb (length ls) room) (ls ++ l ∷ []) new 27 r) ∙
           added name l ls (λ s. ap (λ (x : List ℕ). latest text x ls) (only s) ∙ none q)

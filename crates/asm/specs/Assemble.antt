@@ -1,5 +1,5 @@
 -- Assembling a text: 26 over the whole of it, then line by line.
-use Rattle.std.specs.Prelude.{ℕ, ◌+◌, ◌-◌, List, [], ◌∷◌, ◌++◌, Bool, eqb, length, replicate}
+use Rattle.std.specs.Prelude.{ℕ, ◌+◌, ◌-◌, List, [], ◌∷◌, ◌++◌, Bool, Result, Ok, Err, eqb, length, replicate}
 use Rattle.base.specs.Choice.{cond}
 use Rattle.base.specs.Numbers.{number_of}
 use Rattle.base.specs.Told.{Told, is, no}
@@ -7,7 +7,8 @@ use Rattle.text.specs.Lines.{lines, foreign_line}
 use Rattle.labels.specs.declared.Label.{Label}
 use Rattle.asm.specs.Reading.{read}
 use Rattle.asm.specs.Work.{Task, task, Work, nothing, turn}
-use Rattle.asm.specs.declared.Assembled.{Assembled}
+use Rattle.asm.specs.declared.Totals.{Totals}
+use Rattle.asm.specs.declared.Fault.{Fault}
 
 -- how it ends: with the work done, or with a number and the line, from 1, that was being read
 pub data Outcome : Type 0 where
@@ -56,6 +57,6 @@ abbrev pub report : Outcome → Report
 report (accepted w) = counts (length w.words) (length w.labels) (length w.waiting)
 report (refused n line) = refusal n line
 
-abbrev pub reported : Assembled → Report
-reported (Assembled.Accepted words labels waiting) = counts words labels waiting
-reported (Assembled.Refused r line) = refusal (number_of r) line
+abbrev pub reported : Result Totals Fault → Report
+reported (Ok t) = counts t.words t.labels t.waiting
+reported (Err f) = refusal (number_of f.refusal) f.line

@@ -1,12 +1,11 @@
 -- A label defined, and the references that waited for it.
-use Rattle.std.specs.Prelude.{ℕ, List, [], ◌∷◌, ◌++◌, Bool, ltb, length, take, drop, set}
+use Rattle.std.specs.Prelude.{ℕ, List, [], ◌∷◌, ◌++◌, Bool, Option, Some, None, ltb, length, take, drop, set}
 use Rattle.base.specs.Choice.{cond}
 use Rattle.base.specs.Told.{Told, is, no, ◌>>=◌}
 use Rattle.parser.specs.References.{resolved}
 use Rattle.labels.specs.declared.Label.{Label}
 use Rattle.labels.specs.declared.Open.{Open}
 use Rattle.labels.specs.declared.Found.{Found}
-use Rattle.labels.specs.declared.Found.TheVariants.{Nothing, At}
 use Rattle.labels.specs.Labels.{names, find}
 use Rattle.asm.specs.Words.{word_of}
 
@@ -15,9 +14,9 @@ abbrev pub part : List ℕ → ℕ → ℕ → List ℕ
 part text place size = take size (drop place text)
 
 -- a later definition of a name overwrites its entry, place included; a new name is 27 where the table is full
-abbrev pub entered : ℕ → Label → List Label → Found → Told (List Label)
-entered room l labels (At i a) = is (set labels i l)
-entered room l labels Nothing = cond (ltb (length labels) room) (is (labels ++ l ∷ [])) (no 27)
+abbrev pub entered : ℕ → Label → List Label → Option Found → Told (List Label)
+entered room l labels (Some f) = is (set labels f.index l)
+entered room l labels None = cond (ltb (length labels) room) (is (labels ++ l ∷ [])) (no 27)
 
 unfoldable pub define : List ℕ → ℕ → Label → List Label → Told (List Label)
 define text room l labels = entered room l labels (find text (part text l.place l.length) labels)

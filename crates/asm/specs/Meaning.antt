@@ -1,6 +1,6 @@
 -- What a text means, said without words and without patching: the instruction of each of its lines, labels resolved.
 -- proofs/Sound.antt holds assembling to it, Strict.antt has what strict assembly promises of it.
-use Rattle.std.specs.Prelude.{ℕ, suc, ◌+◌, List, [], ◌∷◌, length}
+use Rattle.std.specs.Prelude.{ℕ, suc, ◌+◌, List, [], ◌∷◌, Option, Some, None, length}
 use Rattle.base.specs.Choice.{cond}
 use Rattle.base.specs.Told.{Told, is, no}
 use Rattle.base.specs.Words.{doubled}
@@ -11,7 +11,6 @@ use Rattle.parser.specs.declared.Reference.{Reference}
 use Rattle.parser.specs.References.{resolved}
 use Rattle.labels.specs.declared.Label.{Label}
 use Rattle.labels.specs.declared.Found.{Found}
-use Rattle.labels.specs.declared.Found.TheVariants.{Nothing, At}
 use Rattle.labels.specs.Labels.{names}
 use Rattle.labels.specs.Labels as Labels
 use Rattle.asm.specs.Labels.{part}
@@ -93,6 +92,6 @@ unfoldable pub definitions : List ℕ → List Label
 definitions text = defined [] 0 (items_from 0 (lines text))
 
 -- the address that a search of a label table leads to
-abbrev pub leads_to : List Label → Found → Told ℕ
-leads_to labels (At i a) = is a
-leads_to labels Nothing = no 25
+abbrev pub leads_to : List Label → Option Found → Told ℕ
+leads_to labels (Some f) = is f.address
+leads_to labels None = no 25

@@ -1,7 +1,8 @@
 -- What a line of a text is. Places are counted from the start of the line.
-use Rattle.std.specs.Prelude.{ℕ, ◌+◌, List, [], ◌∷◌, eqb, ltb, length}
+use Rattle.std.specs.Prelude.{ℕ, ◌+◌, List, [], ◌∷◌, Result, Ok, Err, eqb, ltb, length}
 use Rattle.base.specs.Choice.{cond}
 use Rattle.base.specs.Numbers.{number_of}
+use Rattle.base.specs.declared.refusals.Refusal.{Refusal}
 use Rattle.base.specs.Told.{Told, is, no}
 use Rattle.instruction.specs.declared.Instruction.{Instruction}
 use Rattle.text.specs.Parts.{is_blank, equals, run, drop_front, drop_end}
@@ -18,13 +19,16 @@ pub data Item : Type 0 where
   says : Instruction → Item
   refers : Reference → ℕ → ℕ → Item
 
--- what the function answers: the line itself, or 01's number
-abbrev pub told_item : Line → Told Item
-told_item Line.Skip = is skip
-told_item (Line.Label start size) = is (label start size)
-told_item (Line.Says i) = is (says i)
-told_item (Line.Refers r start size) = is (refers r start size)
-told_item (Line.Refused r) = no (number_of r)
+-- what a line is that the function reads, and what it answers: that, or 01's number
+abbrev pub item_of : Line → Item
+item_of Line.Skip = skip
+item_of (Line.Label start size) = label start size
+item_of (Line.Says i) = says i
+item_of (Line.Refers r start size) = refers r start size
+
+abbrev pub told_item : Result Line Refusal → Told Item
+told_item (Ok l) = is (item_of l)
+told_item (Err r) = no (number_of r)
 
 -- where the name ends that a line has, 0 where it has none
 abbrev pub end_of : Line → ℕ
@@ -32,7 +36,6 @@ end_of Line.Skip = 0
 end_of (Line.Label start size) = start + size
 end_of (Line.Says i) = 0
 end_of (Line.Refers r start size) = start + size
-end_of (Line.Refused r) = 0
 
 -- a reference keeps where the name stands that it waits for: it is the second token
 abbrev pub said : ℕ → List ℕ → Told Meaning → Told Item

@@ -1,18 +1,11 @@
 -- The word of an instruction, plain or strict, and its place in the output.
 use Rattle.std.specs.Prelude.{ℕ, List, [], ◌∷◌, ◌++◌, Bool, not, ◌&&◌, ltb, length}
 use Rattle.base.specs.Choice.{cond}
-use Rattle.base.specs.Numbers.{number_of}
 use Rattle.base.specs.Order.{Refusing, ◌when◌, passing}
 use Rattle.base.specs.Told.{Told, is, no, ◌>>=◌}
 use Rattle.instruction.specs.declared.Instruction.{Instruction}
 use Rattle.instruction.specs.Encode.{encode}
 use Rattle.instruction.specs.Fits.{fits, decodable}
-use Rattle.asm.specs.declared.encoding.Word.{Word}
-use Rattle.asm.specs.declared.encoding.Word.TheVariants.{Is, Refused}
-
-abbrev pub told_word : Word → Told ℕ
-told_word (Is w) = is w
-told_word (Refused r) = no (number_of r)
 
 -- what strict assembly refuses: 30 exactly if a field exceeds its width, then 32 exactly if no word says an instruction of this form
 unfoldable pub strict_order : Instruction → List Refusing

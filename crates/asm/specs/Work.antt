@@ -1,5 +1,5 @@
 -- What a line does to the words, labels and open references so far.
-use Rattle.std.specs.Prelude.{ℕ, ◌+◌, List, [], Bool, length}
+use Rattle.std.specs.Prelude.{ℕ, ◌+◌, List, [], Bool, Option, Some, None, length}
 use Rattle.base.specs.Told.{Told, is, ◌>>=◌}
 use Rattle.base.specs.Words.{doubled}
 use Rattle.instruction.specs.declared.Instruction.{Instruction}
@@ -8,7 +8,6 @@ use Rattle.parser.specs.References.{resolved}
 use Rattle.labels.specs.declared.Label.{Label}
 use Rattle.labels.specs.declared.Open.{Open}
 use Rattle.labels.specs.declared.Found.{Found}
-use Rattle.labels.specs.declared.Found.TheVariants.{Nothing, At}
 use Rattle.labels.specs.Labels.{find, label}
 use Rattle.labels.specs.Opens.{open_to}
 use Rattle.asm.specs.Reading.{Item}
@@ -51,9 +50,9 @@ opens t o w = do
   is (work words w.labels waiting)
 
 -- a label that is known gives its address; for another the reference stays open
-abbrev pub refers_to : Task → Reference → ℕ → ℕ → Work → Found → Told Work
-refers_to t r place size w (At i a) = says t (resolved r a) w
-refers_to t r place size w Nothing = opens t (open_to place size (length w.words) r) w
+abbrev pub refers_to : Task → Reference → ℕ → ℕ → Work → Option Found → Told Work
+refers_to t r place size w (Some f) = says t (resolved r f.address) w
+refers_to t r place size w None = opens t (open_to place size (length w.words) r) w
 
 unfoldable pub references : Task → Reference → ℕ → ℕ → Work → Told Work
 references t r place size w = refers_to t r place size w (find t.text (part t.text place size) w.labels)

@@ -5,9 +5,7 @@ ghost use Rattle.asm.specs.Assemble.{filled};
 pub fn clear_words(words: &mut [u16], from: usize)
     ensures { words.new ≡ filled (length words.old) (take from words.old) }
 {
-    let mut i = from;
-    while i < words.len() {
-        words[i] = 0;
-        i += 1;
+    if from < words.len() {
+        words[from..].fill(0);
     }
 }

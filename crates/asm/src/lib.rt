@@ -26,13 +26,19 @@ pub struct Rules {
     pub strict: bool,
 }
 
-// What assembling a text answers.
-#[derive(Clone, Copy)]
-pub enum Assembled {
-    // how many words, labels and references still open
-    Accepted(usize, usize, usize),
-    // and the line, from 1
-    Refused(Refusal, usize),
+// What a text that is accepted comes to: how many words, labels and references still open.
+#[derive(Clone, Copy, Debug, PartialEq, Eq)]
+pub struct Totals {
+    pub words: usize,
+    pub labels: usize,
+    pub waiting: usize,
+}
+
+// Why a text is refused, and the line, from 1.
+#[derive(Clone, Copy, Debug, PartialEq, Eq)]
+pub struct Fault {
+    pub refusal: Refusal,
+    pub line: usize,
 }
 
 // Places are counted from the start of the line.
@@ -45,7 +51,6 @@ pub enum Line {
     Says(Instruction),
     // and where the name starts that it waits for, and its length
     Refers(Reference, usize, usize),
-    Refused(Refusal),
 }
 
 // How many words, labels and open references there are.
@@ -54,13 +59,6 @@ pub struct Counts {
     pub words: InstructionIndex,
     pub labels: usize,
     pub waiting: usize,
-}
-
-// How many there are after a line, or the refusal.
-#[derive(Clone, Copy)]
-pub enum Turn {
-    Go(Counts),
-    Refused(Refusal),
 }
 
 // An entry of the label table: where it goes, and the label.

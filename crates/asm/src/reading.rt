@@ -1,40 +1,41 @@
 // What a line of a text is.
-ghost use Rattle.std.specs.Prelude.{◌≡◌, ◌+◌, ◌≤◌, ◌<◌, length};
+ghost use Rattle.std.specs.Prelude.{◌≡◌, ◌+◌, ◌≤◌, ◌<◌, IfOk, length};
 ghost use Rattle.asm.specs.Reading.{told_item, end_of, read_trimmed, read};
 
 use crate::Line;
+use base::Refusal;
 use parser::{Parsed, parse};
 use text::{drop_final, past_blanks, second_start, token, trim_end};
 
 // A trimmed line with something on it, which starts at `at`.
-fn read_some(t: &[u8], at: usize) -> Line
+fn read_some(t: &[u8], at: usize) -> Result<Line, Refusal>
     requires { (0 < length t.now) × (at + length t.now ≤ 18446744073709551615) }
     ensures result_value { told_item result ≡ read_trimmed at t.now }
-    ensures result_bound { end_of result ≤ at + length t.now }
+    ensures result_bound { IfOk result (λ l. end_of l ≤ at + length t.now) }
 {
-    if t[0] == 59 {
-        return Line::Skip;
+    if t[0] == b';' {
+        return Ok(Line::Skip);
     }
-    let name = drop_final(t, 58);
+    let name = drop_final(t, b':');
     if name.len() < t.len() {
-        return Line::Label(at, name.len());
+        return Ok(Line::Label(at, name.len()));
     }
     let p = parse(t);
     match p {
-        Parsed::Is(i) => Line::Says(i),
-        Parsed::Refers(r) => Line::Refers(r, at + second_start(t), token(t, 1).len()),
-        Parsed::Refused(r) => Line::Refused(r),
+        Parsed::Is(i) => Ok(Line::Says(i)),
+        Parsed::Refers(r) => Ok(Line::Refers(r, at + second_start(t), token(t, 1).len())),
+        Parsed::Refused(r) => Err(r),
     }
 }
 
-pub fn read_line(line: &[u8]) -> Line
+pub fn read_line(line: &[u8]) -> Result<Line, Refusal>
     ensures result_value { told_item result ≡ read line.now }
-    ensures result_in_bounds { end_of result ≤ length line.now }
+    ensures result_in_bounds { IfOk result (λ l. end_of l ≤ length line.now) }
 {
     let a = past_blanks(line, 0);
     let t = trim_end(&line[a..]);
-    if t.len() == 0 {
-        return Line::Skip;
+    if t.is_empty() {
+        return Ok(Line::Skip);
     }
     read_some(t, a)
 }

@@ -1,17 +1,17 @@
 // A line that refers to a label.
-ghost use Rattle.std.specs.Prelude.{◌≡◌, List, ℕ, ◌≤◌, length, take};
+ghost use Rattle.std.specs.Prelude.{◌≡◌, List, ℕ, ◌≤◌, IfOk, length, take};
 ghost use Rattle.labels.specs.Labels.{find};
-ghost use Rattle.labels.specs.Opens.{opens_of, open_to};
+ghost use Rattle.labels.specs.Opens.{open_to};
 ghost use Rattle.labels.specs.declared.Label.{Label};
 ghost use Rattle.asm.specs.Labels.{part};
-ghost use Rattle.asm.specs.Work.{Task, task, opens, references};
-ghost use Rattle.asm.specs.Views.{work_of, turned, words_in, labels_in, waiting_in};
+ghost use Rattle.asm.specs.Work.{Task, task, references};
+ghost use Rattle.asm.specs.Work as Work;
+ghost use Rattle.asm.specs.Views.{work_of, turned};
 
-use crate::labelling::after;
 use crate::patching::add_open;
-use crate::turns::worded;
-use crate::words::{Added, add_instruction, add_word};
-use crate::{Counts, Rules, Turn};
+use crate::words::{add_instruction, add_word};
+use crate::{Counts, Rules};
+use base::Refusal;
 use labels::{Found, Open};
 use parser::{Reference, resolved};
 
@@ -22,34 +22,23 @@ fn open_reference(
     size: usize,
     n: Counts,
     words: &mut [u16],
-    o_places: &mut [usize],
-    o_lengths: &mut [usize],
-    o_words: &mut [u16],
-    o_references: &mut [u8],
-) -> Turn
+    opens: &mut [Open],
+) -> Result<Counts, Refusal>
     requires words_in_bounds { (n.words.0 ≤ length words.old) × (n.words.0 ≤ 32767) × (n.waiting ≤ 512) }
-    requires o_places_len { (length o_places.old ≡ 512) × (length o_lengths.old ≡ 512) × (length o_words.old ≡ 512) × (length o_references.old ≡ 512) }
-    ensures o_references_after { (t : Task) → (labels : List Label) → t.word_room ≡ length words.old →
-        turned result words.new labels (opens_of o_places.new o_lengths.new o_words.new o_references.new)
-        ≡ opens t (open_to place size n.words.0 reference)
-        (work_of n words.old labels (opens_of o_places.old o_lengths.old o_words.old o_references.old)) }
-    ensures result_in_bounds { (words_in result ≤ length words.old) × (words_in result ≤ 32767) × (waiting_in result ≤ 512) × (labels_in result ≤ n.labels) }
+    requires opens_len { length opens.old ≡ 512 }
+    ensures opens_after { (t : Task) → (labels : List Label) → t.word_room ≡ length words.old →
+        turned result words.new labels opens.new
+        ≡ Work.opens t (open_to place size n.words.0 reference) (work_of n words.old labels opens.old) }
+    ensures result_in_bounds { IfOk result (λ m. (m.words.0 ≤ length words.old) × (m.words.0 ≤ 32767) × (m.waiting ≤ 512) × (m.labels ≤ n.labels)) }
 {
-    let here = n.words;
-    let o = Open {
-        place: place,
-        length: size,
-        word: here,
-        reference: reference,
-    };
-    let added = add_word(words, here, 0);
-    match added {
-        Added::Next(next) => {
-            let left = add_open(o, n.waiting, o_places, o_lengths, o_words, o_references);
-            after(left, next, n.labels)
-        }
-        Added::Refused(r) => Turn::Refused(r),
-    }
+    let next = add_word(words, n.words, 0)?;
+    let o = Open::new(place, size, n.words, reference);
+    let waiting = add_open(o, n.waiting, opens)?;
+    Ok(Counts {
+        words: next,
+        labels: n.labels,
+        waiting,
+    })
 }
 
 // With what was found of the name.
@@ -58,38 +47,24 @@ pub fn refer(
     reference: Reference,
     place: usize,
     size: usize,
-    f: Found,
+    f: Option<Found>,
     n: Counts,
     words: &mut [u16],
-    o_places: &mut [usize],
-    o_lengths: &mut [usize],
-    o_words: &mut [u16],
-    o_references: &mut [u8],
-) -> Turn
+    opens: &mut [Open],
+) -> Result<Counts, Refusal>
     requires words_in_bounds { (n.words.0 ≤ length words.old) × (n.words.0 ≤ 32767) × (n.waiting ≤ 512) }
-    requires o_places_len { (length o_places.old ≡ 512) × (length o_lengths.old ≡ 512) × (length o_words.old ≡ 512) × (length o_references.old ≡ 512) }
+    requires opens_len { length opens.old ≡ 512 }
     ensures by_index { (text : List ℕ) → (ls : List Label) → (most : ℕ) → f ≡ find text (part text place size) (take n.labels ls) →
-        turned result words.new ls (opens_of o_places.new o_lengths.new o_words.new o_references.new)
-        ≡ references (task rules.strict text (length words.old) most) reference place size
-        (work_of n words.old ls (opens_of o_places.old o_lengths.old o_words.old o_references.old)) }
-    ensures result_in_bounds { (words_in result ≤ length words.old) × (words_in result ≤ 32767) × (waiting_in result ≤ 512) × (labels_in result ≤ n.labels) }
+        turned result words.new ls opens.new
+        ≡ references (task rules.strict text (length words.old) most) reference place size (work_of n words.old ls opens.old) }
+    ensures result_in_bounds { IfOk result (λ m. (m.words.0 ≤ length words.old) × (m.words.0 ≤ 32767) × (m.waiting ≤ 512) × (m.labels ≤ n.labels)) }
 {
     match f {
-        Found::At(_, address) => {
-            let here = n.words;
-            let added = add_instruction(rules, words, here, resolved(reference, address));
-            worded(added, n)
+        Some(found) => {
+            let i = resolved(reference, found.address);
+            let next = add_instruction(rules, words, n.words, i)?;
+            Ok(Counts { words: next, ..n })
         }
-        Found::Nothing => open_reference(
-            reference,
-            place,
-            size,
-            n,
-            words,
-            o_places,
-            o_lengths,
-            o_words,
-            o_references,
-        ),
+        None => open_reference(reference, place, size, n, words, opens),
     }
 }

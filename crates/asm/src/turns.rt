@@ -1,32 +1,19 @@
 // What a line does to the words, labels and open references so far.
-ghost use Rattle.std.specs.Prelude.{◌≡◌, List, ◌+◌, ◌≤◌, length, take, set};
+ghost use Rattle.std.specs.Prelude.{◌≡◌, List, ◌+◌, ◌≤◌, IfOk, length, take};
+ghost use Rattle.base.specs.Told.{is};
 ghost use Rattle.labels.specs.declared.Label.{Label};
 ghost use Rattle.labels.specs.Labels.{find};
-ghost use Rattle.labels.specs.Opens.{opens_of};
 ghost use Rattle.asm.specs.Labels.{part};
-ghost use Rattle.asm.specs.Reading.{told_item, end_of};
+ghost use Rattle.asm.specs.Reading.{item_of, end_of};
 ghost use Rattle.asm.specs.Work.{task, turn};
-ghost use Rattle.asm.specs.Views.{work_of, turned, words_in, labels_in, waiting_in, worded_of, name_at, slot_for, label_for, Within};
+ghost use Rattle.asm.specs.Views.{work_of, turned, name_at, entry_of, written, Within};
 
 use crate::labelling::label_line;
 use crate::referring::refer;
-use crate::words::{Added, add_instruction};
-use crate::{Counts, Line, Rules, Turn};
-use labels::Found;
-
-// After one word more.
-pub fn worded(added: Added, n: Counts) -> Turn
-    ensures { result ≡ worded_of added n }
-{
-    match added {
-        Added::Next(next) => Turn::Go(Counts {
-            words: next,
-            labels: n.labels,
-            waiting: n.waiting,
-        }),
-        Added::Refused(r) => Turn::Refused(r),
-    }
-}
+use crate::words::add_instruction;
+use crate::{Counts, Line, Rules};
+use base::Refusal;
+use labels::{Found, Open};
 
 fn part(text: &[u8], place: usize, size: usize) -> &[u8]
     requires { place + size ≤ length text.now }
@@ -46,7 +33,6 @@ pub fn name_in(text: &[u8], at: usize, line: Line) -> &[u8]
         Line::Refers(_, start, size) => part(text, at + start, size),
         Line::Skip => part(text, 0, 0),
         Line::Says(_) => part(text, 0, 0),
-        Line::Refused(_) => part(text, 0, 0),
     }
 }
 
@@ -57,58 +43,31 @@ pub fn do_line(
     text: &[u8],
     at: usize,
     line: Line,
-    f: Found,
+    f: Option<Found>,
     most: usize,
     n: Counts,
     words: &mut [u16],
-    o_places: &mut [usize],
-    o_lengths: &mut [usize],
-    o_words: &mut [u16],
-    o_references: &mut [u8],
-) -> Turn
+    opens: &mut [Open],
+) -> Result<Counts, Refusal>
     requires line_in_bounds { at + end_of line ≤ length text.now }
-    requires within { Within n.words.0 n.labels n.waiting (length words.old) most }
-    requires o_places_len { (length o_places.old ≡ 512) × (length o_lengths.old ≡ 512) × (length o_words.old ≡ 512) × (length o_references.old ≡ 512) }
-    ensures o_references_after { (ls : List Label) → length ls ≡ most → f ≡ find text.now (name_at text.now at line) (take n.labels ls) →
-        turned result words.new (set ls (slot_for line f n.labels most) (label_for line at n.words.0)) (opens_of o_places.new o_lengths.new o_words.new o_references.new)
-        ≡ turn (task rules.strict text.now (length words.old) most) at (told_item line)
-        (work_of n words.old ls (opens_of o_places.old o_lengths.old o_words.old o_references.old)) }
-    ensures within_2 { Within (words_in result) (labels_in result) (waiting_in result) (length words.old) most }
+    requires within { Within n (length words.old) most }
+    requires opens_len { length opens.old ≡ 512 }
+    ensures opens_after { (ls : List Label) → length ls ≡ most → f ≡ find text.now (name_at text.now at line) (take n.labels ls) →
+        turned result words.new (written (entry_of line at f n) ls) opens.new
+        ≡ turn (task rules.strict text.now (length words.old) most) at (is (item_of line)) (work_of n words.old ls opens.old) }
+    ensures within_2 { IfOk result (λ m. Within m (length words.old) most) }
 {
     match line {
-        Line::Skip => Turn::Go(n),
-        Line::Label(start, size) => label_line(
-            rules,
-            text,
-            at + start,
-            size,
-            f,
-            most,
-            n,
-            words,
-            o_places,
-            o_lengths,
-            o_words,
-            o_references,
-        ),
-        Line::Says(i) => {
-            let here = n.words;
-            let added = add_instruction(rules, words, here, i);
-            worded(added, n)
+        Line::Skip => Ok(n),
+        Line::Label(start, size) => {
+            label_line(rules, text, at + start, size, f, most, n, words, opens)
         }
-        Line::Refers(reference, start, size) => refer(
-            rules,
-            reference,
-            at + start,
-            size,
-            f,
-            n,
-            words,
-            o_places,
-            o_lengths,
-            o_words,
-            o_references,
-        ),
-        Line::Refused(r) => Turn::Refused(r),
+        Line::Says(i) => {
+            let next = add_instruction(rules, words, n.words, i)?;
+            Ok(Counts { words: next, ..n })
+        }
+        Line::Refers(reference, start, size) => {
+            refer(rules, reference, at + start, size, f, n, words, opens)
+        }
     }
 }

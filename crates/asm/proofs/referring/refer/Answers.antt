@@ -1,46 +1,38 @@
 -- A label that was found gives its address, and the instruction is one word more; else the reference is opened. Assumes nothing.
 use Prim.Native.Nat.{ℕ}
-use lib.ListN.{length, take}
+use lib.ListN.{length}
 use lib.Seq.{length-take-le}
-use mathlib.Core.Path.{◌∙◌, ◌≡◌, ap, refl, sym}
-use native.Mathlib.Omega.{arith}
-use Rattle.asm.proofs.TurnLaws.{turn-known, turn-says, turn-unknown, worded-labels, worded-waiting, worded-words}
-use Rattle.asm.specs.Views.{labels_in, turned, waiting_in, worded_of, words_in, work_of}
-use Rattle.asm.specs.Work.{opens, says, task}
-use Rattle.labels.specs.Opens.{open_to, opens_of}
-use Rattle.asm.specs.declared.Turn.{Turn}
+use mathlib.Core.Path.{◌∙◌, ap, refl, sym}
+use Rattle.std.proofs.lemmas.Result.{err_from_is_err_and}
 use Rattle.instruction.specs.declared.Instruction.{Instruction}
+use Rattle.labels.specs.Opens.{open_to}
+use Rattle.asm.specs.Views.{work_of}
+use Rattle.asm.specs.Work.{opens, says, task}
+use Rattle.asm.proofs.TurnLaws.{turn-known, turn-says, turn-says-refused, turn-unknown}
 use Rattle.asm.proofs.referring.refer.Goals as goal
 
-pub returns-in-At : goal.returns-in-At
-returns-in-At c = let n = c.args.n in
-    let words = c.args.words.now in
-    let waiting = opens_of c.args.o_places.now c.args.o_lengths.now c.args.o_words.now c.args.o_references.now in
-    let words' = c.add_instruction-added.new.words in
-    let word : c.worded.result ≡ worded_of c.add_instruction-added.result n = c.worded.ensures in record {
-      by_index = λ text ls most e.
-          let t = task c.args.rules.strict text (length words) most in
-          let w = work_of n words ls waiting in
-          ap (λ (x : Turn). turned x words' ls waiting) word ∙ turn-says n words words' ls waiting t c.resolved.result c.add_instruction-added.result c.add_instruction-added.ensures.words_after ∙
-          ap (λ (x : Instruction). says t x w) c.resolved.ensures ∙
-          turn-known t c.args.reference c.args.place c.args.size w c.in-At.field-0 c.in-At.address (sym e ∙ c.in-At.is);
-      result_in_bounds = (
-        omega (arith, ap words_in word, worded-words c.add_instruction-added.result n, c.add_instruction-added.ensures.result_in_bounds.0),
-        omega (arith, ap words_in word, worded-words c.add_instruction-added.result n, c.add_instruction-added.ensures.result_in_bounds.1),
-        omega (arith, ap waiting_in word, worded-waiting c.add_instruction-added.result n, c.requires.words_in_bounds.2),
-        omega (arith, ap labels_in word, worded-labels c.add_instruction-added.result n),
-      );
-    }
+pub returns-in_err-next-in-Some-clause-by_index : goal.returns-in_err-next-in-Some-clause-by_index
+returns-in_err-next-in-Some-clause-by_index c = λ text ls most e.
+    let a = c.args in
+    let t = task a.rules.strict text (length a.words.now) most in
+    let w = work_of a.n a.words.now ls a.opens.now in
+    let p = err_from_is_err_and c.from_residual.result c.from_residual.ensures.1 in
+    rw (p.1, p.2) (turn-says-refused t c.resolved-i.result a.n a.words.now ls a.opens.now _ c.in_err-next-in-Some.ensures.words_after
+    ∙ ap (λ (i : Instruction). says t i w) c.resolved-i.ensures ∙ turn-known t a.reference a.place a.size w c.in-Some.found (sym c.in-Some.is ∙ e))
 
-pub returns-in-Nothing : goal.returns-in-Nothing
-returns-in-Nothing c = let n = c.args.n in
-    let words = c.args.words.now in
-    let waiting = opens_of c.args.o_places.now c.args.o_lengths.now c.args.o_words.now c.args.o_references.now in
-    let count : n.words.0 ≡ length (take n.words.0 words) = sym (length-take-le n.words.0 words c.requires.words_in_bounds.0) in record {
-      by_index = λ text ls most e.
-          let t = task c.args.rules.strict text (length words) most in
-          let w = work_of n words ls waiting in
-          c.open_reference.ensures.o_references_after t ls refl ∙ ap (λ (x : ℕ). opens t (open_to c.args.place c.args.size x c.args.reference) w) count ∙
-          turn-unknown t c.args.reference c.args.place c.args.size w (sym e ∙ c.in-Nothing.is);
-      result_in_bounds = c.open_reference.ensures.result_in_bounds;
-    }
+pub returns-in_ok-next-in-Some-clause-by_index : goal.returns-in_ok-next-in-Some-clause-by_index
+returns-in_ok-next-in-Some-clause-by_index c = λ text ls most e.
+    let a = c.args in
+    let t = task a.rules.strict text (length a.words.now) most in
+    let w = work_of a.n a.words.now ls a.opens.now in
+    turn-says t c.resolved-i.result a.n a.words.now ls a.opens.now _ c.in_ok-next-in-Some.ensures.words_after
+    ∙ ap (λ (i : Instruction). says t i w) c.resolved-i.ensures ∙ turn-known t a.reference a.place a.size w c.in-Some.found (sym c.in-Some.is ∙ e)
+
+pub returns-in-None-clause-by_index : goal.returns-in-None-clause-by_index
+returns-in-None-clause-by_index c = λ text ls most e.
+    let a = c.args in
+    let t = task a.rules.strict text (length a.words.now) most in
+    let w = work_of a.n a.words.now ls a.opens.now in
+    c.open_reference.ensures.opens_after t ls refl
+    ∙ ap (λ (x : ℕ). opens t (open_to a.place a.size x a.reference) w) (sym (length-take-le a.n.words.0 a.words.now c.requires.words_in_bounds.0))
+    ∙ turn-unknown t a.reference a.place a.size w (sym c.in-None.is ∙ e)

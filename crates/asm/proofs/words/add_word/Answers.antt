@@ -1,21 +1,11 @@
 -- The word goes after the first words where there is room, and the first words are then one more. Assumes nothing.
-use Prim.Native.Nat.{◌+◌, ◌<◌, ℕ}
-use borrow.Author.Rules.{rules}
-use lib.ListN.{length, take}
-use mathlib.Core.List.{List}
-use mathlib.Core.Path.{◌∙◌, ap, sym}
+use mathlib.Core.Path.{sym}
 use Rattle.asm.proofs.WordLaws.{add-word-full, add-word-most, add-word-next}
-use Rattle.base.specs.Told.{is}
+use Rattle.asm.proofs.words.add_word.Goals.{else-i-words-via-then-i-words+else-at-lt32767, else-i-words-via-else-i-words}
 use Rattle.asm.proofs.words.add_word.Goals as goal
 
-pub returns-then-at-lt32767 : goal.returns-then-at-lt32767
-returns-then-at-lt32767 c = let words = c.args.words.now in
-    let n = c.args.at.0 in
-    let room : n < length words = c.if-at-words.true in
-    let most : n < 32767 = c.if-at-lt32767.true in record { words_after = ap (λ (ws : List ℕ). is (take (n + 1) ws)) c.put_word.ensures ∙ sym (add-word-next words n c.args.w c.requires room most); result_in_bounds = (search rules, search rules) }
+pub returns-then-at-lt32767-clause-words_after : goal.returns-then-at-lt32767-clause-words_after
+returns-then-at-lt32767-clause-words_after c = sym (add-word-next c.args.words.now c.args.at.0 c.args.w c.requires c.if-i-words.true c.if-at-lt32767.true)
 
-pub returns-else-at-lt32767 : goal.returns-else-at-lt32767
-returns-else-at-lt32767 c = record { words_after = sym (add-word-most c.args.words.now c.args.at.0 c.args.w c.requires c.if-at-words.true c.if-at-lt32767.false); result_in_bounds = (search rules, search rules) }
-
-pub returns-else-at-words : goal.returns-else-at-words
-returns-else-at-words c = record { words_after = sym (add-word-full c.args.words.now c.args.at.0 c.args.w c.requires c.if-at-words.false); result_in_bounds = (search rules, search rules) }
+pub returns-clause-words_after : goal.returns-clause-words_after
+returns-clause-words_after c = elim c.else-i-words.branch [ else-i-words-via-then-i-words+else-at-lt32767 w ↦ sym (add-word-most c.args.words.now c.args.at.0 c.args.w c.requires w.if-i-words.true w.if-at-lt32767.false) | else-i-words-via-else-i-words w ↦ sym (add-word-full c.args.words.now c.args.at.0 c.args.w c.requires w.if-i-words.false) ]

@@ -1,8 +1,0 @@
--- Each arm is a row of the definition. Assumes nothing.
-use Rattle.asm.proofs.labelling.after.Goals as goal
-
-pub returns-in-Count : goal.returns-in-Count
-returns-in-Count c = rw c.in-Count.is
-
-pub returns-in-Refused : goal.returns-in-Refused
-returns-in-Refused c = rw c.in-Refused.is

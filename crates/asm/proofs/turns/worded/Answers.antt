@@ -1,8 +1,0 @@
--- Each arm is a row of the definition. Assumes nothing.
-use Rattle.asm.proofs.turns.worded.Goals as goal
-
-pub returns-in-Next : goal.returns-in-Next
-returns-in-Next c = rw c.in-Next.is
-
-pub returns-in-Refused : goal.returns-in-Refused
-returns-in-Refused c = rw c.in-Refused.is
