@@ -20,11 +20,9 @@ fn read_some(t: &[u8], at: usize) -> Result<Line, Refusal>
     if name.len() < t.len() {
         return Ok(Line::Label(at, name.len()));
     }
-    let p = parse(t);
-    match p {
+    match parse(t)? {
         Parsed::Is(i) => Ok(Line::Says(i)),
         Parsed::Refers(r) => Ok(Line::Refers(r, at + second_start(t), token(t, 1).len())),
-        Parsed::Refused(r) => Err(r),
     }
 }
 
