@@ -1,20 +1,26 @@
--- A line and what comes after it, by cursor: each law is one unfolding of its definition, or an induction over the line's bytes.
--- Assumes nothing.
+-- A line and what comes after it, by cursor: each law is one unfolding of its definition. And the line of the first byte over 127, found
+-- over all bytes, is the first line that is not ASCII, by induction over the bytes. Assumes nothing.
 use Prim.Native.Nat.{◌+◌, ◌-◌, ◌<◌, ◌≤◌, suc, ℕ}
-use borrow.Author.Tests.{eqb-true, le-leb, le-ltb, lt-leb, lt-ltb, ltb-false, ltb-true}
+use borrow.Author.Tests.{eqb-true, leb-false, le-ltb, lt-ltb}
 use lib.Dec.{eqb, leb, ltb}
-use lib.ListN.{drop, drop_of_length-le, get_or, length, length-drop, take}
-use lib.Seq.{drop-cons, drop-drop, length-take-le}
-use mathlib.Core.Bool.{Bool, ◌&&◌, false, not, true}
+use lib.ListN.{drop, drop_of_length-le, length, length-drop, take}
+use lib.Seq.{length-take-le}
+use mathlib.Core.Bool.{Bool, false, not, true}
 use mathlib.Core.List.{List, [], ◌∷◌}
-use mathlib.Core.Path.{◌∙◌, ◌≡◌, refl, sym}
-use native.Mathlib.Numerals.{add-one}
+use mathlib.Core.Path.{◌∙◌, ◌≡◌, ap, refl}
 use native.Mathlib.Omega.{arith}
-use Rattle.base.proofs.Tests.{and_left, and_right}
+use Rattle.std.specs.Prelude.{Some, None, position, count_by}
+use Rattle.std.specs.List.{position_or_len}
+use Rattle.std.specs.Char as Char
+use Rattle.std.proofs.Common.{nat_lt, cond as std-cond}
+use Rattle.std.proofs.lemmas.Bool.Decides.{nat_tests}
+use Rattle.std.proofs.lemmas.List.Sums.{sum_by-cons}
+use Rattle.base.proofs.Tests.{ltb-same}
 use Rattle.base.specs.Choice.{cond}
-use Rattle.reader.specs.Reader.{after_line, clean_at, is_ascii, line_at, numbered}
+use Rattle.reader.specs.Reader.{after_line, first_foreign, is_ascii, line_at}
 use Rattle.text.proofs.LineLaws.{line-at}
 use Rattle.text.proofs.PartLaws.{run-le}
+use Rattle.text.specs.Tokens.{cons_head}
 use Rattle.text.specs.Lines.{foreign_line, lines, not_end}
 use Rattle.text.specs.Parts.{run}
 
@@ -37,86 +43,6 @@ module _ (s : List ℕ) (at : ℕ) where
   unfolding after_line
   after_none h = rw (le-ltb at (length s) h)
 
-  pub clean-some : at < length s → is_ascii (line_at s at) ≡ clean_at s at
-  unfolding clean_at
-  clean-some h = rw (lt-ltb at (length s) h)
-
-  pub clean-none : length s ≤ at → false ≡ clean_at s at
-  unfolding clean_at
-  clean-none h = rw (le-ltb at (length s) h)
-
--- the bytes up to 127, at an index
-module _ (s : List ℕ) (i : ℕ) where
-  pub ascii-not : i < length s → 127 < get_or s i 0 → is_ascii (drop i s) ≡ false
-  unfolding is_ascii
-  ascii-not h e = rw (drop-cons s i 0, lt-leb (get_or s i 0) 127 e)
-
-  pub ascii-next : i < length s → get_or s i 0 ≤ 127 → is_ascii (drop i s) ≡ is_ascii (drop (i + 1) s)
-  unfolding is_ascii
-  ascii-next h e = rw (add-one, drop-cons s i 0, le-leb (get_or s i 0) 127 e)
-
-  pub ascii-end : length s ≤ i → is_ascii (drop i s) ≡ true
-  unfolding is_ascii
-  ascii-end h = rw drop_of_length-le
-
--- the first line of a list, where it is clean: what is found in all is found after it, counting one more
-past-byte : (n x : ℕ) (xs : List ℕ) (ends : Bool) → eqb x 10 ≡ ends → let k = cond (not ends) (suc (run not_end xs)) 0 in
-    is_ascii (take k (x ∷ xs)) ≡ true → (is_ascii (take (run not_end xs) xs) ≡ true → foreign_line n xs ≡ foreign_line (n + 1) (drop (suc (run not_end xs)) xs)) →
-    foreign_line n (x ∷ xs) ≡ foreign_line (n + 1) (drop (suc k) (x ∷ xs))
-unfolding is_ascii
-past-byte n x xs true q e ih =
-    let low : x ≤ 127 = omega (arith, eqb-true x 10 q) in
-    rw (q, le-leb x 127 low)
-past-byte n x xs false q e ih = rw (q, and_left (leb x 127) (is_ascii (take (run not_end xs) xs)) e, ih (and_right (leb x 127) (is_ascii (take (run not_end xs) xs)) e))
-
-past-line : (n : ℕ) (xs : List ℕ) → is_ascii (take (run not_end xs) xs) ≡ true → foreign_line n xs ≡ foreign_line (n + 1) (drop (suc (run not_end xs)) xs)
-past-line n [] e = refl
-past-line n (x ∷ xs) e = past-byte n x xs (eqb x 10) refl e (past-line n xs)
-
--- where it is not clean, it is the line
-in-byte : (n x : ℕ) (xs : List ℕ) (ends low : Bool) → eqb x 10 ≡ ends → leb x 127 ≡ low → is_ascii (take (cond (not ends) (suc (run not_end xs)) 0) (x ∷ xs)) ≡ false →
-    (is_ascii (take (run not_end xs) xs) ≡ false → foreign_line n xs ≡ n) → foreign_line n (x ∷ xs) ≡ n
-unfolding is_ascii
-in-byte n x xs true low q l e ih = absurd (let z : ◌≡◌ {A = ℕ} 0 1 = cc in omega arith)
-in-byte n x xs false true q l e ih = rw (q, l, ih (sym (rw l) ∙ e))
-in-byte n x xs false false q l e ih = rw l
-
-in-line : (n : ℕ) (xs : List ℕ) → is_ascii (take (run not_end xs) xs) ≡ false → foreign_line n xs ≡ n
-unfolding is_ascii
-in-line n [] e = absurd (let z : ◌≡◌ {A = ℕ} 0 1 = cc in omega arith)
-in-line n (x ∷ xs) e = in-byte n x xs (eqb x 10) (leb x 127) refl refl e (in-line n xs)
-
--- the same at a place of the text
-module _ (s : List ℕ) (at : ℕ) where
-  pub clean-there : clean_at s at ≡ true → at < length s
-  unfolding clean_at
-  clean-there e = ltb-true at (length s) (and_left (ltb at (length s)) (is_ascii (line_at s at)) e)
-
-  pub clean-past : (n : ℕ) → clean_at s at ≡ true → foreign_line n (drop at s) ≡ foreign_line (n + 1) (drop (after_line s at) s)
-  unfolding clean_at line_at
-  clean-past n e =
-      let k = run not_end (drop at s) in
-      let next : at + suc k ≡ after_line s at = omega (arith, add-one k, after-some s at (at + k) (clean-there e) refl) in
-      past-line n (drop at s) (and_right (ltb at (length s)) (is_ascii (line_at s at)) e) ∙ rw (drop-drop (suc k) at s, next)
-
-  pub after_more : clean_at s at ≡ true → (at < after_line s at) × (after_line s at ≤ length s + 1)
-  after_more e =
-      let k = run not_end (drop at s) in
-      let there : at < length s = clean-there e in
-      let next : at + k + 1 ≡ after_line s at = after-some s at (at + k) there refl in
-      let short : k ≤ length (drop at s) = run-le not_end (drop at s) in
-      let left : length (drop at s) ≡ length s - at = length-drop at s in
-      (omega arith, omega arith)
-
-  -- where the reader stops, the line that is there is the one, and else there is none
-  pub clean-stops : (n : ℕ) → clean_at s at ≡ false → numbered (ltb at (length s)) n ≡ foreign_line n (drop at s)
-  unfolding clean_at line_at
-  clean-stops n e = go (ltb at (length s)) refl e
-    where
-      go : (t : Bool) → ltb at (length s) ≡ t → (t && is_ascii (line_at s at)) ≡ false → numbered t n ≡ foreign_line n (drop at s)
-      go true q e = sym (in-line n (drop at s) e)
-      go false q e = rw (drop_of_length-le s (ltb-false at (length s) q))
-
 -- the line at a place of the text is the first of the lines from there on, and the others follow where the next one starts
 module _ (s : List ℕ) (at : ℕ) (h : at < length s) where
   pub lines_at : lines (drop at s) ≡ line_at s at ∷ lines (drop (after_line s at) s)
@@ -134,5 +60,70 @@ module _ (s : List ℕ) (at : ℕ) (h : at < length s) where
   pub line-inside : at + length (line_at s at) ≤ length s
   line-inside = omega (arith, line-length, run-le not_end (drop at s), length-drop at s)
 
--- the three laws of the search for a byte over 127
-pub ruleset ascii_laws = (ascii-not, ascii-next, ascii-end)
+-- the first line that is not ASCII is the line of the first byte over 127
+by-line : (n x : ℕ) (xs : List ℕ) (ls : List (List ℕ)) (ends low : Bool) → eqb x 10 ≡ ends → leb x 127 ≡ low → ((m : ℕ) → first_foreign m ls ≡ foreign_line m xs) →
+    first_foreign n (cond ends ([] ∷ ls) (cons_head x ls)) ≡ cond low (foreign_line (cond ends (n + 1) n) xs) n
+unfolding is_ascii
+by-line n x xs ls true true q l h = h (n + 1)
+by-line n x xs ls true false q l h = absurd (omega (arith, eqb-true x 10 q, leb-false x 127 l))
+by-line n x xs [] false true q l h = rw l (h n)
+by-line n x xs (t ∷ ts) false true q l h = rw l (h n)
+by-line n x xs [] false false q l h = rw l
+by-line n x xs (t ∷ ts) false false q l h = rw l
+
+pub foreign-by-line : (n : ℕ) (xs : List ℕ) → first_foreign n (lines xs) ≡ foreign_line n xs
+foreign-by-line n [] = refl
+foreign-by-line n (x ∷ xs) = by-line n x xs (lines xs) (eqb x 10) (leb x 127) refl refl (λ m. foreign-by-line m xs)
+
+-- over all bytes: as many lines on as end before it
+abbrev pub low : ℕ → Bool
+low b = Char.is_ascii b
+
+abbrev pub ends : List ℕ → ℕ
+ends = count_by (λ x. eqb x 10)
+
+low-is : (x : ℕ) → low x ≡ leb x 127
+low-is x = grind (arith, nat_tests)
+
+ends-cons : (x : ℕ) (xs : List ℕ) → ends (x ∷ xs) ≡ std-cond (eqb x 10) 1 0 + ends xs
+ends-cons x xs = sum_by-cons (λ x. std-cond (eqb x 10) 1 0) x xs
+
+abbrev first : List ℕ → ℕ
+first = position_or_len (λ x. not (low x))
+
+one-more : (x : ℕ) (xs : List ℕ) (k : ℕ) → ends (take (1 + k) (x ∷ xs)) ≡ std-cond (eqb x 10) 1 0 + ends (take k xs)
+one-more x xs k =
+    let e : 1 + k ≡ suc k = omega arith in
+    rw e (ends-cons x (take k xs))
+
+counts-on : (u : Bool) (n m : ℕ) → cond u (n + 1) n + m ≡ n + (std-cond u 1 0 + m)
+counts-on true n m = omega arith
+counts-on false n m = omega arith
+
+near : (n x : ℕ) (xs : List ℕ) (t : Bool) → leb x 127 ≡ t → ((m : ℕ) → foreign_line m xs ≡ std-cond (nat_lt (first xs) (length xs)) (m + ends (take (first xs) xs)) 0) →
+    cond t (foreign_line (cond (eqb x 10) (n + 1) n) xs) n ≡ std-cond (nat_lt (std-cond (not (not t)) (1 + first xs) 0) (suc (length xs))) (n + ends (take (std-cond (not (not t)) (1 + first xs) 0) (x ∷ xs))) 0
+near n x xs true q h =
+    let k = first xs in
+    let l : ltb (1 + k) (suc (length xs)) ≡ ltb k (length xs) = ltb-same (1 + k) (suc (length xs)) k (length xs) (λ z. omega arith) (λ z. omega arith) in
+    rw (l, one-more x xs k) (h (cond (eqb x 10) (n + 1) n) ∙ ap (λ (m : ℕ). std-cond (ltb k (length xs)) m 0) (counts-on (eqb x 10) n (ends (take k xs))))
+near n x xs false q h =
+    let l : ltb 0 (suc (length xs)) ≡ true = lt-ltb 0 (suc (length xs)) (omega arith) in
+    rw l (omega arith)
+
+found : (xs : List ℕ) (n : ℕ) → foreign_line n xs ≡ std-cond (nat_lt (first xs) (length xs)) (n + ends (take (first xs) xs)) 0
+found [] n = refl
+found (x ∷ xs) n = rw low-is (near n x xs (leb x 127) refl (found xs))
+
+pub foreign_past : (xs : List ℕ) (n : ℕ) → position (λ x. not (low x)) xs ≡ None → foreign_line n xs ≡ 0
+foreign_past xs n e = found xs n ∙ go (nat_lt (first xs) (length xs)) e
+  where
+    go : (t : Bool) → std-cond t (Some (first xs)) None ≡ None → std-cond t (n + ends (take (first xs) xs)) 0 ≡ 0
+    go true e = cc
+    go false e = refl
+
+pub foreign_at : (xs : List ℕ) (n i : ℕ) → position (λ x. not (low x)) xs ≡ Some i → foreign_line n xs ≡ n + ends (take i xs)
+foreign_at xs n i e = found xs n ∙ go (nat_lt (first xs) (length xs)) e
+  where
+    go : (t : Bool) → std-cond t (Some (first xs)) None ≡ Some i → std-cond t (n + ends (take (first xs) xs)) 0 ≡ n + ends (take i xs)
+    go true e = let q : first xs ≡ i = cc in rw q
+    go false e = cc

@@ -1,27 +1,20 @@
 // The line of the first byte that is not ASCII.
-ghost use Rattle.std.specs.Prelude.{◌≡◌};
-ghost use Rattle.reader.specs.Reader.{numbered};
+ghost use Rattle.std.specs.Prelude.{◌≡◌, ◌==◌, count_by};
 ghost use Rattle.text.specs.Lines.{foreign_line};
 
-use crate::{after, clean, more, new};
-
-// The number where there is a line to speak of, else 0.
-fn numbered(there: bool, n: usize) -> usize
-    ensures { result ≡ numbered there n }
+// How many lines end in it.
+fn ends(text: &[u8]) -> usize
+    ensures { result ≡ count_by (λ x. x == 10) text.now }
 {
-    if there { n } else { 0 }
+    text.iter().filter(|b| **b == b'\n').count()
 }
 
-// The line, from 1, of the first byte over 127; 0 where there is none. Lines that are all ASCII are read past: where a line is
-// left, it is the one.
+// The line, from 1, of the first byte over 127; 0 where there is none.
 pub fn foreign_line(text: &[u8]) -> usize
     ensures { result ≡ foreign_line 1 text.now }
 {
-    let mut r = new(text);
-    let mut n = 1;
-    while clean(r) {
-        r = after(r);
-        n += 1;
+    match text.iter().position(|b| !b.is_ascii()) {
+        Some(i) => ends(&text[..i]) + 1,
+        None => 0,
     }
-    numbered(more(r), n)
 }

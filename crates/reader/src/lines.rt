@@ -1,52 +1,42 @@
-// Lines by a cursor: where one is, what comes after it, and whether it is ASCII.
-ghost use Rattle.std.specs.Prelude.{◌≡◌};
-ghost use Rattle.reader.specs.Reader.{line_at, after_line, is_ascii, clean_at};
+// Lines in turn, each with the place where it starts.
+ghost use Rattle.std.specs.Prelude.{◌≡◌, ◌-◌, length};
+ghost use Rattle.std.specs.Iterator.{at_most};
+ghost use Rattle.reader.specs.Reader.{Reads};
 
 use text::line_end;
 
-// The line that starts at `at`, without its end; empty past the text.
-pub fn line_at(s: &[u8], at: usize) -> &[u8]
-    ensures { result.now ≡ line_at s.now at }
-{
-    if at < s.len() {
-        let e = line_end(s, at);
-        return &s[at..e];
-    }
-    &s[..0]
+// A text and the place in it where the next line starts.
+#[derive(Clone, Copy)]
+pub struct LineReader<'a> {
+    pub text: &'a [u8],
+    pub at: usize,
 }
 
-// Where the line after it starts; past the text `at` itself.
-pub fn after_line(s: &[u8], at: usize) -> usize
-    ensures { result ≡ after_line s.now at }
-{
-    if at < s.len() {
-        line_end(s, at) + 1
-    } else {
-        at
+impl<'a> LineReader<'a> {
+    // At the text's start.
+    pub fn new(text: &'a [u8]) -> LineReader<'a>
+        ensures { (result.text ≡ text.entry) × (result.at ≡ 0) }
+    {
+        LineReader { text, at: 0 }
     }
 }
 
-#[tactic(auto, using(crate::proofs::LineLaws::ascii_laws))]
-fn is_ascii(s: &[u8]) -> bool
-    ensures { result ≡ is_ascii s.now }
-{
-    let mut i = 0;
-    while i < s.len() {
-        if 127 < s[i] {
-            return false;
+impl<'a> Iterator for LineReader<'a> {
+    // where the line starts, and the line without its end
+    type Item = (usize, &'a [u8]);
+
+    ghost next_gives = { Reads };
+
+    ghost remaining = { λ r. at_most (length r.text.now - r.at) };
+
+    // Past the last line there is none, and the reader stays where it is.
+    fn next(&mut self) -> Option<(usize, &'a [u8])> {
+        let at = self.at;
+        if self.text.len() <= at {
+            return None;
         }
-        i += 1;
-    }
-    true
-}
-
-// Is there a line at `at`, with no byte over 127?
-pub fn clean_at(s: &[u8], at: usize) -> bool
-    ensures { result ≡ clean_at s.now at }
-{
-    if at < s.len() {
-        is_ascii(line_at(s, at))
-    } else {
-        false
+        let end = line_end(self.text, at);
+        self.at = end + 1;
+        Some((at, &self.text[at..end]))
     }
 }
