@@ -1,5 +1,5 @@
 // The memory map: which addresses are protected, which a device covers, and where the byte of an address is.
-// No byte is read or stored here. Tables come by value and may hold anything; every function answers.
+// No byte is read or stored here. Tables may hold anything, and every function answers.
 #![tactic(auto)]
 
 mod devices;
@@ -27,6 +27,7 @@ pub struct Device {
 }
 
 // Both tables, each with the number of its entries in use. Unused entries of a valid map are zero.
+// (a): the counts stay beside tables of eight, since a state from C may hold any count, and whether it is valid is what `valid` answers.
 #[derive(Clone, Copy)]
 pub struct Map {
     pub regions: u16,
@@ -35,7 +36,7 @@ pub struct Map {
     pub device: [Device; 8],
 }
 
-// Where the byte of an address is kept.
+// Where the byte of an address is kept. (d): `Nowhere` stays a variant, since each who asks matches all three.
 #[derive(Clone, Copy)]
 pub enum Place {
     // The byte of linear memory at this index.

@@ -8,6 +8,7 @@ use base::Refusal;
 use map::Map;
 
 // The bytes from start on, up to the first unmapped one; how many there were.
+// (d): a `for` over numbers, since i is a byte's offset from start and its index in out.
 fn copy_out(m: Map, mem: &[u8], dev: &[u8], start: u16, size: usize, out: &mut [u8]) -> usize
     requires { (start + size ≤ 65535) × (size ≤ length out.old) }
     ensures value { result ≡ length (read_bytes m (lent mem.now dev.now) start size) }

@@ -29,7 +29,7 @@ pub struct Change {
     pub byte: u8,
 }
 
-// The bytes to be stored, in their order.
+// The bytes to be stored, in their order. (d): none, one or two is what a step can store, and a match names each.
 #[derive(Clone, Copy)]
 pub enum Changes {
     Nothing,
