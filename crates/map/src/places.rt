@@ -7,8 +7,8 @@ ghost use Rattle.map.specs.Places.{place, in_bank, in_linear, target, somewhere,
 use crate::regions::is_protected;
 use crate::{Map, Place};
 
-#[tactic(auto, using(crate::proofs::Scans::place_turn, crate::proofs::Scans::place_end), unfolding(crate::specs::Places::place))]
 // Where the byte of address a is, with mem bytes of linear memory and dev bytes in the device buffer.
+#[tactic(auto, using(crate::proofs::Scans::place_turn, crate::proofs::Scans::place_end), unfolding(crate::specs::Places::place))]
 pub fn place_of(m: Map, mem: usize, dev: usize, a: u16) -> Place
     ensures { result ≡ place m mem dev a }
 {

@@ -33,8 +33,8 @@ fn store_words(m: Map, mem: &mut [u8], dev: &mut [u8], words: &[u16]) -> bool
     true
 }
 
-#[tactic(auto, unfolding(crate::specs::Program::load_number, crate::specs::Program::load_order, crate::specs::Program::load_map, crate::specs::Program::load_bytes, crate::specs::Program::begins))]
 // Loads a program: 1, 16, 14, 15, 13. What was stored stays where the answer is 15 or 13.
+#[tactic(auto, unfolding(crate::specs::Program::load_number, crate::specs::Program::load_order, crate::specs::Program::load_map, crate::specs::Program::load_bytes, crate::specs::Program::begins))]
 pub fn write_program(
     m: &mut Map,
     mem: &mut [u8],
