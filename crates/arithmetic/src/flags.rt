@@ -2,13 +2,15 @@
 ghost use Rattle.std.specs.Prelude.{◌≡◌, ◌<◌};
 ghost use Rattle.arithmetic.specs.Flags.{flag, compared, failed};
 
+use instruction::bit_at;
+
 // Whether a bit is set.
 #[tactic(auto, unfolding(crate::specs::Flags::flag))]
 pub fn flag(flags: u16, bit: usize) -> bool
     requires { bit < 16 }
     ensures { result ≡ flag flags bit }
 {
-    fields::field(flags, bit, 1) == 1
+    bit_at(flags, bit)
 }
 
 // What a comparison leaves: bit 3 set if it was true, else cleared.
@@ -16,7 +18,7 @@ pub fn flag(flags: u16, bit: usize) -> bool
 pub fn compared(flags: u16, yes: bool) -> u16
     ensures { result ≡ compared flags yes }
 {
-    if yes { flags | 8 } else { flags & 65527 }
+    if yes { flags | 8 } else { flags & !8 }
 }
 
 // What a failed store leaves: bits 0 and 2 set.

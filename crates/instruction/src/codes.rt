@@ -1,5 +1,6 @@
 // The numbers of registers and operators, and back. A number past the last of its list is read as the last one:
-// a register's three bits and an Arith operator's two cannot pass it, and the decoder tests the other two first.
+// a register's three bits and an Arith operator's two cannot pass it, and the decoder tests the other two first. So reading a number
+// never fails, and is no `TryFrom`.
 ghost use Rattle.std.specs.Prelude.{◌≡◌, ◌<◌};
 ghost use Rattle.instruction.specs.Codes.{
   register_of,

@@ -1,5 +1,5 @@
 // The word of an instruction: a sum of fields, each masked to its width and placed where the table has it.
-// The sums are those of the definition, term by term.
+// The sums are those of the definition, term by term: a function for each row of the table, also where two rows have one shape.
 ghost use Rattle.std.specs.Prelude.{◌≡◌, ◌+◌, ◌<◌};
 ghost use Rattle.fields.specs.Fields.{place_of};
 ghost use Rattle.instruction.specs.Encode.{register_in, bit, mode, value, encode};

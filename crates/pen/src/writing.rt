@@ -1,4 +1,5 @@
-// Bytes into a buffer from a position on. Each writer answers the position after its own bytes.
+// Bytes into a buffer from a position on. Each writer answers the position after its own bytes: it is handed on and stands in no
+// struct with the buffer, which the functions above lend to one writer after the other.
 ghost use Rattle.std.specs.Prelude.{◌≡◌, [], ◌∷◌};
 ghost use Rattle.pen.specs.Pen.{pen, wrote};
 

@@ -6,7 +6,8 @@ ghost use Rattle.printer.specs.Text.{digits, immediate_of};
 use crate::lines::Line;
 
 impl Line {
-    // The digits of the tens, then the last one.
+    // The digits of the tens, then the last one. No `write!`: what that writes is known only where it answers Ok, and `print` promises
+    // the text in every case.
     pub(crate) fn decimal(&mut self, n: usize)
         ensures { self.new.text.items ≡ added self.old.text.items (digits 20 n) }
     {

@@ -1,4 +1,4 @@
-// The names of registers, and the mnemonics.
+// The names of registers, and the mnemonics: a match each, since each name is of its own and stands once.
 ghost use Rattle.std.specs.Prelude.{◌≡◌};
 ghost use Rattle.printer.specs.Text.{register_name, arith_name, arithmetic_name, compare_name, shift_name, word_name, byte_name};
 
