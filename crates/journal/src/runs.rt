@@ -49,9 +49,10 @@ pub fn run(s: &mut State, mem: &mut [u8], dev: &mut [u8], journal: &mut [u8], n:
             count: 0,
         };
     }
+    let map = s.machine.map;
     let d = records::room(journal);
     for count in 0..n {
-        let answer = turn(s, mem, dev, journal, d);
+        let answer = turn(s, map, mem, dev, journal, d);
         if !goes_on(answer) {
             return Ran {
                 answer,

@@ -10,7 +10,7 @@ use Rattle.memory.specs.Bytes.{lent}
 use Rattle.records.specs.Slots.{room}
 use Rattle.records.proofs.Ring.{before-lt}
 use Rattle.journal.specs.States.{Whole, whole, valid_whole}
-use Rattle.journal.specs.Back.{Backed, backed, used_by, newest}
+use Rattle.journal.specs.Back.{backed, newest}
 use Rattle.journal.proofs.StateLaws.{held_next}
 use Rattle.journal.proofs.BackLaws.{back-invalid, back_none}
 use Rattle.journal.proofs.BackCases.{back-unknown, back-bad, back_done}

@@ -8,6 +8,8 @@ use Rattle.machine.specs.declared.StepAnswer.TheVariants.{Continue}
 use Rattle.memory.specs.Bytes.{lent}
 use Rattle.journal.specs.States.{whole, valid}
 use Rattle.journal.specs.Run.{goes_on, ran, run}
+use Rattle.journal.specs.Step.{Result}
+use Rattle.journal.proofs.StepLaws.{step_map}
 use Rattle.records.proofs.Laws.{room-length}
 use Rattle.journal.proofs.RunTurns.{ended, goes-on, ends}
 use Rattle.journal.proofs.runs.run.Goals as goal
@@ -37,6 +39,7 @@ loop-count-preserved c = let v = whole c.args.s.now (lent c.args.mem.now c.args.
     let u = whole c.turn-answer.new.s (lent c.turn-answer.new.mem c.turn-answer.new.dev) c.turn-answer.new.journal in
     let g : goes_on a ≡ true = sym c.goes_on.ensures ∙ c.if-not-goes_on.false in
     record {
+      same = c.loop-count.invariant.same ∙ sym (step_map w) ∙ ap (λ (x : Result). x.whole.state.machine.map) (sym c.turn-answer.ensures.journal_after);
       stays = c.turn-answer.ensures.stays_valid;
       left = goes-on c.args.n c.loop-count.count w v c.loop-count.invariant.left c.loop-count-test.true a u c.turn-answer.ensures.journal_after g;
     }

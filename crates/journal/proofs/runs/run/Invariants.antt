@@ -10,6 +10,7 @@ use Rattle.journal.proofs.runs.run.Given as goal
 
 abbrev pub invariant-loop-count : goal.invariant-loop-count
 invariant-loop-count l = record {
+  same : l.map ≡ l.s.machine.map;
   stays : valid l.s l.dev l.journal ≡ true;
   left : counted l.count (repeated (l.n - l.count) (whole l.s (lent l.mem l.dev) l.journal)) ≡ repeated l.n (whole l.initial.s (lent l.initial.mem l.initial.dev) l.initial.journal);
 }
