@@ -1,5 +1,5 @@
 -- Numbers in text, digit by digit.
-use Prim.Native.Nat.{◌*◌, ◌+◌, ◌<◌, ◌≤◌, suc, ℕ}
+use Prim.Native.Nat.{◌*◌, ◌+◌, ◌<◌, ◌≤◌, ℕ}
 use borrow.Author.Tests.{le-leb, le-ltb, lt-leb, lt-ltb}
 use lib.Dec.{ltb}
 use lib.ListN.{drop, drop_of_length-le, get_or, length}
@@ -15,7 +15,7 @@ use Rattle.base.specs.Told.{is, no}
 use Rattle.std.specs.Prelude.{Option, Some, None, SomeIff}
 use Rattle.std.specs.Char.{digit_value}
 use Rattle.std.proofs.lemmas.Bool.Decides.{nat_tests}
-use Rattle.text.specs.Immediates.{all_digits, at_most, digit_in, digit_of, digits, digits_from, value_from}
+use Rattle.text.specs.Immediates.{all_digits, at_most, digit_in, digit_of, digits_from, value_from}
 
 -- up to 16 the two values of a digit are one
 module _ (b base : ℕ) (h : base ≤ 16) where
@@ -72,11 +72,3 @@ pub num_past : (base : ℕ) (s : List ℕ) (acc i d : ℕ) → 1 ≤ base → i 
 num_past base s acc i d b h e o = num_next base s acc i d h e ∙ num-over base b (acc * base + d) o (drop (i + 1) s)
 
 pub ruleset digit_laws = (num_next, num_bad, num_end, num_past)
-
-pub num-some : (base : ℕ) (s : List ℕ) → (length s ≡ 0 → ⊥) → digits_from base 0 s ≡ digits base s
-num-some base [] h = absurd (h refl)
-num-some base (x ∷ xs) h = refl
-
-pub num-none : (base : ℕ) (s : List ℕ) → length s ≡ 0 → no 24 ≡ digits base s
-num-none base [] h = refl
-num-none base (x ∷ xs) h = let z : suc (length xs) ≡ 0 = h in absurd (omega arith)

@@ -1,11 +1,10 @@
 -- Runs, trimming and sameness, at an index of a list.
-use Prim.Native.Nat.{◌+◌, ◌-◌, ◌<◌, ◌≤◌, suc, zero, ℕ}
-use lib.ListN.{drop, drop_of_length-le, get_or, length, length-drop, take}
-use lib.Seq.{drop-cons, take_all, take-suc}
+use Prim.Native.Nat.{◌+◌, ◌-◌, ◌<◌, ◌≤◌, suc, ℕ}
+use lib.ListN.{drop, get_or, length, length-drop, take}
+use lib.Seq.{take_all, take-suc}
 use mathlib.Core.Bool.{Bool, false, not, true}
 use mathlib.Core.List.{List, [], ◌++◌, ◌∷◌}
 use mathlib.Core.Path.{◌∙◌, ◌≡◌, ap, refl, sym}
-use native.Mathlib.Nat.{not-suc-le-zero}
 use native.Mathlib.Numerals.{add-one}
 use native.Mathlib.Omega.{arith}
 use Rattle.base.proofs.SameLaws.{same-equal, same_self}
@@ -17,35 +16,6 @@ use Rattle.std.proofs.Common.{cond as std-cond, nat_lt}
 use borrow.Author.Tests.{ltb-false}
 use Rattle.text.specs.Parts.{drop_end, keep_if, run}
 
-module _ (p : ℕ → Bool) (s : List ℕ) (i : ℕ) where
-  pub run_step : i < length s → p (get_or s i 0) ≡ true → run p (drop i s) ≡ suc (run p (drop (i + 1) s))
-  run_step h e = rw (add-one, drop-cons s i 0, e)
-
-  pub run-stop : i < length s → p (get_or s i 0) ≡ false → run p (drop i s) ≡ 0
-  run-stop h e = rw (drop-cons s i 0, e)
-
-  pub run_end : length s ≤ i → run p (drop i s) ≡ 0
-  run_end h = rw drop_of_length-le
-
--- equality, compared from the end: the two are equal from i on
-module _ (a b : List ℕ) (i : ℕ) where
-  pub same-tail : 0 < i → i ≤ length a → i ≤ length b → get_or a (i - 1) 0 ≡ get_or b (i - 1) 0 → drop i a ≡ drop i b → drop (i - 1) a ≡ drop (i - 1) b
-  same-tail h ha hb e t =
-      let q : suc (i - 1) ≡ i = omega (arith, h) in
-      let u : drop (suc (i - 1)) a ≡ drop (suc (i - 1)) b = ap (λ k. drop k a) q ∙ t ∙ ap (λ k. drop k b) (sym q) in
-      let m : get_or a (i - 1) 0 ∷ drop (suc (i - 1)) a ≡ get_or b (i - 1) 0 ∷ drop (suc (i - 1)) b = rw (e, u) in
-      drop-cons a (i - 1) 0 (omega (arith, h, ha)) ∙ m ∙ sym (drop-cons b (i - 1) 0 (omega (arith, h, hb)))
-
-  pub same_stop : (get_or a i 0 ≡ get_or b i 0 → ⊥) → same a b ≡ false
-  same_stop h = go (same a b) refl
-    where
-      go : (t : Bool) → same a b ≡ t → t ≡ false
-      go true e = absurd (h (ap (λ l. get_or l i 0) (same-equal a b e)))
-      go false e = refl
-
-pub same_none : (a b : List ℕ) (i : ℕ) → length a ≤ i → length b ≤ i → drop i a ≡ drop i b
-same_none a b i ha hb = rw (drop_of_length-le a ha, drop_of_length-le b hb)
-
 -- the library's sameness of bytes
 pub same_is : (t : Bool) (a b : List ℕ) → (t ≡ true → a ≡ b) → (a ≡ b → t ≡ true) → t ≡ same a b
 same_is true a b f g = rw (f refl) (sym (same_self b))
@@ -54,12 +24,6 @@ same_is false a b f g = go (same a b) refl
     go : (u : Bool) → same a b ≡ u → false ≡ u
     go true e = let z : false ≡ true = g (same-equal a b e) in cc
     go false e = refl
-
-pub same-all : (a b : List ℕ) (i : ℕ) → i ≤ 0 → drop i a ≡ drop i b → same a b ≡ true
-same-all a b i h t =
-    let z : i ≡ 0 = omega (arith, h) in
-    let e : a ≡ b = sym (ap (λ k. drop k a) z) ∙ t ∙ ap (λ k. drop k b) z in
-    ap (λ l. same a l) (sym e) ∙ same_self a
 
 -- a run is no longer than the list
 pub run-le : (p : ℕ → Bool) (xs : List ℕ) → run p xs ≤ length xs
@@ -108,10 +72,6 @@ module _ (p : ℕ → Bool) (s : List ℕ) (h : 1 ≤ length s) where
       sym a ∙ sym (end-stop p s (length s) (omega arith) (omega arith) e) ∙ ap (drop_end p) a
 
 pub ruleset end_laws = (last_drops, last_keeps)
-
-pub zero-front : (p : ℕ → Bool) (s : List ℕ) (e : ℕ) → e ≤ 0 → take e s ≡ drop_end p (take e s)
-zero-front p s zero h = refl
-zero-front p s (suc e) h = absurd (not-suc-le-zero h)
 
 -- what is left is no longer
 pub end-le : (p : ℕ → Bool) (xs : List ℕ) → length (drop_end p xs) ≤ length xs

@@ -1,8 +1,7 @@
 -- Tokens: blanks in front change nothing, and a word is the first of them.
--- the tokens of a list: blanks in front change nothing, and a word is the first of them
 use Prim.Native.Nat.{◌+◌, ◌<◌, ◌≤◌, suc, zero, ℕ}
 use borrow.Author.Tests.{not-true}
-use lib.ListN.{drop, drop_of_length-le, get_or, length, length-drop, length-take, take}
+use lib.ListN.{drop, get_or, length, length-drop, length-take, take}
 use lib.Seq.{drop-cons, drop-drop, length-take-le}
 use mathlib.Core.Bool.{Bool, false, not, true}
 use mathlib.Core.List.{List, [], ◌∷◌}
@@ -96,24 +95,6 @@ module _ (s : List ℕ) (i : ℕ) (h : i < length s) where
       let d : drop i s ≡ get_or s i 0 ∷ drop (i + 1) s = rw (add-one, drop-cons s i 0) in
       ap (λ (l : List ℕ). length (tokens l)) d ∙ token-count (get_or s i 0) (drop (i + 1) s) ∙
       ap (λ (t : Bool). cond t (suc (length (tokens (drop (i + 1) s)))) (length (tokens (drop (i + 1) s)))) (sym (ap ends_word d) ∙ e)
-
-not-not : (b : Bool) → not (not b) ≡ b
-not-not true = refl
-not-not false = refl
-
-module _ (s : List ℕ) (i : ℕ) (h : i < length s) where
-  pub ew-blank : is_blank (get_or s i 0) ≡ true → false ≡ ends_word (drop i s)
-  ew-blank e = rw (drop-cons s i 0, e)
-
-  pub ew-mid : is_blank (get_or s i 0) ≡ false → i + 1 < length s → is_blank (get_or s (i + 1) 0) ≡ ends_word (drop i s)
-  ew-mid e l =
-      let l' : suc i < length s = omega (arith, add-one i) in
-      sym (rw (drop-cons s i 0, e, drop-cons s (suc i) 0, add-one i) (not-not (is_blank (get_or s (suc i) 0))))
-
-  pub ew-last : is_blank (get_or s i 0) ≡ false → length s ≤ i + 1 → true ≡ ends_word (drop i s)
-  ew-last e l =
-      let l' : length s ≤ suc i = omega (arith, add-one i) in
-      rw (drop-cons s i 0, e, drop_of_length-le s l')
 
 -- the second token stands where it starts
 pub second-part : (xs : List ℕ) → token_at xs 1 ≡ take (length (token_at xs 1)) (drop (second_start xs) xs)
