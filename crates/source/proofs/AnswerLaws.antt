@@ -6,6 +6,7 @@ use Prim.Native.Nat.{ℕ, ◌≤◌, ◌<◌}
 use native.Mathlib.Omega.{arith}
 use borrow.Author.Tests.{lt-ltb, le-ltb}
 use lib.ListN.{length, replicate, length-map}
+use Rattle.std.specs.Prelude.{Bool, false, Result, Ok, Err}
 use Rattle.base.specs.Numbers.{number_of}
 use Rattle.base.proofs.Laws.{number-one}
 use Rattle.printer.specs.Print.{placed}
@@ -14,8 +15,7 @@ use Rattle.pen.proofs.PenLaws.{whole_length, whole-placed}
 use Rattle.text.specs.Lines.{ended}
 use Rattle.source.specs.Words.{instruction_of, lowest}
 use Rattle.source.specs.Source.{used_by, lines_of, source_of, source_text, sourced, Answer, length_of, refusal, answer, answered, source_buffer}
-use Rattle.source.specs.declared.Written.{Written}
-use Rattle.source.specs.declared.Written.TheVariants.{Next, Refused}
+use Rattle.source.specs.declared.Fault.{Fault}
 use Rattle.source.specs.Marks.{marked, used_in}
 use Rattle.source.proofs.MarkLaws.{words-fit, lines-marked}
 use Rattle.source.proofs.Longest.{text-most}
@@ -44,7 +44,7 @@ module _ (ws out : List ℕ) where
       ends-text h = rw (le-ltb 32767 (length ws) most, le-ltb (lowest ws) (length ws) all, le-ltb (length out) (length (source_text ws)) h) (refl, refl)
 
       -- the lines by the marks are the text
-      module _ (used : List ℕ) (m : used ≡ marked (map instruction_of ws) (replicate 1024 0)) where
+      module _ (used : List Bool) (m : used ≡ marked (map instruction_of ws) (replicate 1024 false)) where
         abbrev pub written : List ℕ
         written = ended (lines_of (used_in used) (length ws) 0 (map instruction_of ws))
 
@@ -52,7 +52,7 @@ module _ (ws out : List ℕ) where
         unfolding source_of
         text-written =
             let xs = map instruction_of ws in
-            ap (λ (u : List ℕ). ended (lines_of (used_in u) (length ws) 0 xs)) m
+            ap (λ (u : List Bool). ended (lines_of (used_in u) (length ws) 0 xs)) m
             ∙ ap ended (lines-marked xs (words-fit ws) (length ws))
             ∙ ap (λ (n : ℕ). ended (lines_of (used_by xs) n 0 xs)) (sym (length-map ws instruction_of))
 
@@ -75,11 +75,12 @@ module _ (ws out : List ℕ) where
 
 -- ---- two answers that are told alike are one: a refusal by its number
 
-pub written_one : (a b : Written) → answered a ≡ answered b → a ≡ b
-written_one (Next n) (Next k) e = let z : n ≡ k = cc in ap Next z
-written_one (Next n) (Refused r k) e = absurd (let z : ◌≡◌ {A = ℕ} 0 1 = cc in omega arith)
-written_one (Refused r k) (Next n) e = absurd (let z : ◌≡◌ {A = ℕ} 0 1 = cc in omega arith)
-written_one (Refused r k) (Refused q j) e =
-    let number : number_of r ≡ number_of q = cc in
-    let index : k ≡ j = cc in
-    rw (number-one r q number, index)
+pub written_one : (a b : Result ℕ Fault) → answered a ≡ answered b → a ≡ b
+written_one (Ok n) (Ok k) e = let z : n ≡ k = cc in ap Ok z
+written_one (Ok n) (Err f) e = absurd (let z : ◌≡◌ {A = ℕ} 0 1 = cc in omega arith)
+written_one (Err f) (Ok n) e = absurd (let z : ◌≡◌ {A = ℕ} 0 1 = cc in omega arith)
+written_one (Err f) (Err g) e =
+    let number : number_of f.refusal ≡ number_of g.refusal = cc in
+    let refusal_one : f.refusal ≡ g.refusal = number-one f.refusal g.refusal number in
+    let index_one : f.index ≡ g.index = cc in
+    ap Err (λ i. record { refusal = refusal_one i; index = index_one i })

@@ -1,16 +1,20 @@
--- What a word says and whether it has a text, by what it decodes to; and one turn of the walk to the lowest word without a text.
--- Assumes nothing.
-use mathlib.Core.Path.{◌≡◌, refl}
-use mathlib.Core.Bool.{true, false}
-use mathlib.Core.List.{List}
+-- What a word says and whether it has a text, by what it decodes to; and the lowest word without a text is the first of these. Assumes
+-- nothing.
+use mathlib.Core.Path.{◌≡◌, refl, sym, ◌∙◌}
+use mathlib.Core.Bool.{Bool, true, false}
+use mathlib.Core.List.{List, [], ◌∷◌}
 use Prim.Native.Nat.{ℕ, suc, ◌+◌, ◌≤◌, ◌<◌}
-use native.Mathlib.Numerals.{add-one}
 use native.Mathlib.Omega.{arith}
-use borrow.Author.Tests.{eqb-true}
-use lib.Dec.{eqb}
-use lib.ListN.{length, drop, get_or, drop_of_length-le}
-use lib.Seq.{drop-cons}
-use Rattle.base.specs.Told.{Told, is, no}
+use borrow.Author.Tests.{eqb-true, ltb-true, ltb-false}
+use lib.Dec.{eqb, ltb}
+use lib.ListN.{length}
+use Rattle.std.specs.Prelude.{not, Some, None, Result, Ok, Err, MatchResult}
+use Rattle.std.specs.Result.{result_unwrap_or}
+use Rattle.base.specs.Choice.{cond}
+use Rattle.std.specs.List.{position, position_or_len}
+use Rattle.std.proofs.lemmas.List.Recursion.{is_position_or_len}
+use Rattle.base.specs.Told.{Told, is, no, told}
+use Rattle.base.specs.declared.refusals.Refusal.{Refusal}
 use Rattle.base.proofs.Tests.{clash, both}
 use Rattle.instruction.specs.declared.Edition.TheVariants.{Second}
 use Rattle.instruction.specs.declared.Instruction.{Instruction}
@@ -21,23 +25,16 @@ use Rattle.instruction.specs.Fits.{fits, sayable}
 use Rattle.instruction.proofs.EditionLaws.{second_fits}
 use Rattle.source.specs.Words.{or_noop, instruction_of, is_said, has_text, lowest}
 
-module _ (w : ℕ) (i : Instruction) (e : decode_in Second w ≡ is i) where
-  pub says : i ≡ instruction_of w
+module _ (w : ℕ) where
+  pub says : (r : Result Instruction Refusal) → told r ≡ decode_in Second w → result_unwrap_or r Noop ≡ instruction_of w
   unfolding instruction_of
-  says = rw e
+  says (Ok i) e = rw (← e)
+  says (Err q) e = rw (← e)
 
-  pub said : is_said w (is i) ≡ has_text w
+  pub said : (r : Result Instruction Refusal) (t : Bool) → told r ≡ decode_in Second w → MatchResult r (λ i. t ≡ is_said w (is i)) (λ _. t ≡ false) → t ≡ has_text w
   unfolding has_text
-  said = rw e
-
-module _ (w n : ℕ) (e : decode_in Second w ≡ no n) where
-  pub says_none : Noop ≡ instruction_of w
-  unfolding instruction_of
-  says_none = rw e
-
-  pub none_said : false ≡ has_text w
-  unfolding has_text
-  none_said = rw e
+  said (Ok i) t e h = rw (← e) h
+  said (Err q) t e h = rw (← e) h
 
 -- what is written for a word fits
 pub instruction-fits : (w : ℕ) → fits (instruction_of w) ≡ true
@@ -57,23 +54,35 @@ text_says w h = go (decode_in Second w) h
     go (is i) e = let t = both (eqb (encode i) w) (sayable i) e in (eqb-true (encode i) w t.0, t.1)
     go (no n) e = clash e
 
--- ---- the walk: what is left to walk makes the whole
+-- ---- the lowest word without a text
 
-module _ (ws : List ℕ) (i : ℕ) (q : lowest ws ≡ i + lowest (drop i ws)) where
-  pub lowest-here : i < length ws → has_text (get_or ws i 0) ≡ false → i ≡ lowest ws
-  lowest-here h e = omega (arith, q, here)
-    where
-      here : lowest (drop i ws) ≡ 0
-      here = rw (drop-cons ws i 0 h, e)
+lowest-place : (ws : List ℕ) → lowest ws ≡ position_or_len (λ w. not (has_text w)) ws
+lowest-place = is_position_or_len lowest (λ w. not (has_text w)) refl step
+  where
+    step : (w : ℕ) (ws : List ℕ) → lowest (w ∷ ws) ≡ cond (not (has_text w)) 0 (1 + lowest ws)
+    step w ws = go (has_text w)
+      where
+        go : (t : Bool) → cond t (suc (lowest ws)) 0 ≡ cond (not t) 0 (1 + lowest ws)
+        go true = omega arith
+        go false = refl
 
-  pub lowest-next : i < length ws → has_text (get_or ws i 0) ≡ true → lowest ws ≡ i + 1 + lowest (drop (i + 1) ws)
-  lowest-next h e = omega (arith, q, next)
+module _ (ws : List ℕ) where
+  pub lowest-some : (k : ℕ) → position (λ w. not (has_text w)) ws ≡ Some k → (k ≡ lowest ws) × (k < length ws)
+  lowest-some k e = go (ltb l (length ws)) refl e
     where
-      next : lowest (drop i ws) ≡ suc (lowest (drop (i + 1) ws))
-      next = rw (drop-cons ws i 0 h, e, add-one)
+      l : ℕ
+      l = position_or_len (λ w. not (has_text w)) ws
 
-  pub lowest-end : length ws ≤ i → i ≡ lowest ws
-  lowest-end h = omega (arith, q, ended)
+      go : (t : Bool) → ltb l (length ws) ≡ t → cond t (Some l) None ≡ Some k → (k ≡ lowest ws) × (k < length ws)
+      go true q h = let s : l ≡ k = cc in (sym s ∙ sym (lowest-place ws), rw (← s) (ltb-true l (length ws) q))
+      go false q h = absurd cc
+
+  pub lowest-none : position (λ w. not (has_text w)) ws ≡ None → length ws ≤ lowest ws
+  lowest-none e = go (ltb l (length ws)) refl e
     where
-      ended : lowest (drop i ws) ≡ 0
-      ended = rw (drop_of_length-le ws h)
+      l : ℕ
+      l = position_or_len (λ w. not (has_text w)) ws
+
+      go : (t : Bool) → ltb l (length ws) ≡ t → cond t (Some l) None ≡ None → length ws ≤ lowest ws
+      go true q h = absurd cc
+      go false q h = rw lowest-place (ltb-false l (length ws) q)

@@ -4,25 +4,25 @@ use Prim.Native.Nat.{ℕ, ◌+◌}
 use mathlib.Core.Path.{◌≡◌, refl}
 use mathlib.Core.Bool.{Bool, true, false}
 use mathlib.Core.List.{List, ◌∷◌}
+use Rattle.std.specs.Prelude.{Option, Some, None}
 use Rattle.base.specs.Choice.{cond}
 use Rattle.base.specs.Words.{doubled}
 use Rattle.instruction.specs.declared.Instruction.{Instruction}
 use Rattle.parser.specs.declared.Reference.{Reference}
 use Rattle.source.specs.declared.aims.Aim.{Aim}
-use Rattle.source.specs.declared.aims.Aim.TheVariants.{Nowhere, To}
-use Rattle.source.specs.Source.{plain_line, aim_of, inside, refer_line, label_line, line_by, line_of, lines_of}
+use Rattle.source.specs.Source.{plain_line, to, aim_of, inside, refer_line, label_line, line_by, line_of, lines_of}
 use Rattle.source.specs.Promises.{refers}
 
 pub line-cases : (P : List ℕ → ℕ → Type 0) (n : ℕ) (i : Instruction) → P (plain_line i) 0 →
-    ((r : Reference) (a : ℕ) → aim_of i ≡ To r a → inside n a ≡ true → P (refer_line r a) 1) → P (line_of n i) (refers n (aim_of i))
+    ((r : Reference) (a : ℕ) → aim_of i ≡ to r a → inside n a ≡ true → P (refer_line r a) 1) → P (line_of n i) (refers n (aim_of i))
 line-cases P n i plain refer = go (aim_of i) refl
   where
-    go : (x : Aim) → aim_of i ≡ x → P (line_by n i x) (refers n x)
-    go Nowhere e = plain
-    go (To r a) e = pick (inside n a) refl
+    go : (x : Option Aim) → aim_of i ≡ x → P (line_by n i x) (refers n x)
+    go None e = plain
+    go (Some x) e = pick (inside n x.address) refl
       where
-        pick : (t : Bool) → inside n a ≡ t → P (cond t (refer_line r a) (plain_line i)) (cond t 1 0)
-        pick true q = refer r a e q
+        pick : (t : Bool) → inside n x.address ≡ t → P (cond t (refer_line x.reference x.address) (plain_line i)) (cond t 1 0)
+        pick true q = refer x.reference x.address e q
         pick false q = plain
 
 module _ (P : List (List ℕ) → Type 0) (used : ℕ → Bool) (n k : ℕ) (i : Instruction) (xs : List Instruction) where

@@ -8,6 +8,7 @@ use native.Mathlib.Omega.{arith}
 use borrow.Author.Tests.{le-ltb, eqb-true, ne_eqb}
 use lib.Dec.{eqb}
 use lib.ListN.{length, replicate, length-append, length-replicate}
+use Rattle.std.specs.Prelude.{Option, Some, None}
 use Rattle.base.specs.Bytes.{bytes}
 use Rattle.base.specs.Choice.{cond}
 use Rattle.base.specs.Told.{is}
@@ -30,9 +31,8 @@ use Rattle.parser.specs.declared.Reference.{Reference}
 use Rattle.parser.specs.declared.Reference.TheVariants as reference
 use Rattle.parser.specs.References.{resolved}
 use Rattle.source.specs.declared.aims.Aim.{Aim}
-use Rattle.source.specs.declared.aims.Aim.TheVariants.{Nowhere, To}
 use Rattle.source.specs.Words.{instruction_of, has_text, lowest}
-use Rattle.source.specs.Source.{is_noop, plain_line, label_name, aim_of, inside, refer_line, label_line, line_by, line_of, aims_at, used_by, lines_of, source_of, source_text, sourced, longest_text}
+use Rattle.source.specs.Source.{is_noop, plain_line, label_name, to, aim_of, inside, refer_line, label_line, line_by, line_of, aims_at, used_by, lines_of, source_of, source_text, sourced, longest_text}
 use Rattle.source.specs.Promises.{Longest}
 use Rattle.source.proofs.AskLaws.{instruction-fits}
 use Rattle.source.proofs.Refers.{aim-resolved}
@@ -47,15 +47,15 @@ abbrev marks : (ℕ → Bool) → ℕ → List Instruction → ℕ
 marks used k [] = 0
 marks used k (i ∷ xs) = once (used (doubled k)) + marks used (k + 1) xs
 
-abbrev weight : Aim → ℕ
-weight Nowhere = 0
-weight (To r a) = 1
+abbrev weight : Option Aim → ℕ
+weight None = 0
+weight (Some x) = 1
 
 abbrev aims : List Instruction → ℕ
 aims [] = 0
 aims (i ∷ xs) = weight (aim_of i) + aims xs
 
-past : (r : Reference) (b k : ℕ) (xs : List Instruction) → b < doubled k → marks (λ a. aims_at a (To r b)) k xs ≡ 0
+past : (r : Reference) (b k : ℕ) (xs : List Instruction) → b < doubled k → marks (λ a. aims_at a (to r b)) k xs ≡ 0
 past r b k [] h = refl
 past r b k (i ∷ xs) h = rw (ne_eqb b (doubled k) (λ e. omega arith)) (omega (arith, past r b (k + 1) xs (omega arith)))
 
@@ -64,12 +64,18 @@ never k [] = refl
 never k (i ∷ xs) = omega (arith, never (k + 1) xs)
 
 -- one jump or call uses one address
-aim-most : (x : Aim) (k : ℕ) (xs : List Instruction) → marks (λ a. aims_at a x) k xs ≤ weight x
-aim-most Nowhere k xs = omega (arith, never k xs)
-aim-most (To r b) k [] = omega arith
-aim-most (To r b) k (i ∷ xs) = go (eqb b (doubled k)) refl (aim-most (To r b) (k + 1) xs)
+aim-most : (x : Option Aim) (k : ℕ) (xs : List Instruction) → marks (λ a. aims_at a x) k xs ≤ weight x
+aim-most None k xs = omega (arith, never k xs)
+aim-most (Some x) k [] = omega arith
+aim-most (Some x) k (i ∷ xs) = go (eqb b (doubled k)) refl (aim-most (Some x) (k + 1) xs)
   where
-    go : (t : Bool) → eqb b (doubled k) ≡ t → marks (λ a. aims_at a (To r b)) (k + 1) xs ≤ 1 → once t + marks (λ a. aims_at a (To r b)) (k + 1) xs ≤ 1
+    r : Reference
+    r = x.reference
+
+    b : ℕ
+    b = x.address
+
+    go : (t : Bool) → eqb b (doubled k) ≡ t → marks (λ a. aims_at a (to r b)) (k + 1) xs ≤ 1 → once t + marks (λ a. aims_at a (to r b)) (k + 1) xs ≤ 1
     go true e ih = let q = eqb-true b (doubled k) e in let z = past r b (k + 1) xs (omega arith) in omega arith
     go false e ih = omega arith
 
@@ -119,13 +125,15 @@ label-length a = refl
 line-most : (n : ℕ) (i : Instruction) → fits i ≡ true → length (line_of n i) + 1 + 7 * weight (aim_of i) ≤ 26
 line-most n i f = go (aim_of i) refl
   where
-    go : (x : Aim) → aim_of i ≡ x → length (line_by n i x) + 1 + 7 * weight x ≤ 26
-    go Nowhere e = omega (arith, plain-most i f)
-    go (To r a) e = pick (inside n a)
+    go : (x : Option Aim) → aim_of i ≡ x → length (line_by n i x) + 1 + 7 * weight x ≤ 26
+    go None e = omega (arith, plain-most i f)
+    go (Some x) e = pick (inside n x.address)
       where
-        pick : (t : Bool) → length (cond t (refer_line r a) (plain_line i)) + 1 + 7 ≤ 26
-        pick true = omega (arith, refer-most r a)
-        pick false = let h = subst (λ (j : Instruction). length (plain_line j) ≤ 11) (aim-resolved i r a e) (jump-most r a) in omega arith
+        pick : (t : Bool) → length (cond t (refer_line x.reference x.address) (plain_line i)) + 1 + 7 ≤ 26
+        pick true = omega (arith, refer-most x.reference x.address)
+        pick false =
+            let h = subst (λ (j : Instruction). length (plain_line j) ≤ 11) (aim-resolved i x.reference x.address e) (jump-most x.reference x.address) in
+            omega arith
 
 -- ---- texts
 

@@ -4,6 +4,7 @@ use mathlib.Core.Path.{◌≡◌, refl}
 use mathlib.Core.Bool.{Bool, true, false}
 use mathlib.Core.List.{List, [], ◌∷◌, ◌++◌}
 use Prim.Native.Nat.{ℕ}
+use Rattle.std.specs.Prelude.{Option, Some, None}
 use Rattle.base.specs.Bytes.{bytes}
 use Rattle.base.specs.Told.{is}
 use Rattle.instruction.specs.declared.Register.{Register}
@@ -73,20 +74,20 @@ name_of (CallRet true a) = bytes "RET"
 name_of (CallRet false a) = bytes "CALL"
 
 -- the row of the mnemonic table that it is to find, its own; NOOP is no row's name
-abbrev pub kind_for : Instruction → Kind
-kind_for Noop = kind.Unknown
-kind_for (Mov d o) = kind.Mov
-kind_for (MovShift r amount left imm) = kind.MovShift left
-kind_for (Arith d o op) = kind.Arith op
-kind_for (ArithRegReg d a b op) = kind.ArithRegReg op
-kind_for (LdrStr r a store shift) = kind.Transfer false store
-kind_for (LdbStb r a store shift) = kind.Transfer true store
-kind_for (Cpy a b) = kind.Copy
-kind_for (Jmp o) = kind.Jump false
-kind_for (CondJmp o) = kind.Jump true
-kind_for (Cmp r o op) = kind.Compare op
-kind_for (CallRet true a) = kind.Ret
-kind_for (CallRet false a) = kind.Call
+abbrev pub kind_for : Instruction → Option Kind
+kind_for Noop = None
+kind_for (Mov d o) = Some kind.Mov
+kind_for (MovShift r amount left imm) = Some (kind.MovShift left)
+kind_for (Arith d o op) = Some (kind.Arith op)
+kind_for (ArithRegReg d a b op) = Some (kind.ArithRegReg op)
+kind_for (LdrStr r a store shift) = Some (kind.Transfer false store)
+kind_for (LdbStb r a store shift) = Some (kind.Transfer true store)
+kind_for (Cpy a b) = Some kind.Copy
+kind_for (Jmp o) = Some (kind.Jump false)
+kind_for (CondJmp o) = Some (kind.Jump true)
+kind_for (Cmp r o op) = Some (kind.Compare op)
+kind_for (CallRet true a) = Some kind.Ret
+kind_for (CallRet false a) = Some kind.Call
 
 pub named : (i : Instruction) → (kind_of (name_of i) ≡ kind_for i) × (is_token (name_of i) ≡ true)
 unfolding arith_name arithmetic_name compare_name shift_name word_name byte_name rows upper kind_of is_plain
@@ -121,6 +122,6 @@ named (Cmp r o GreaterEq) = (refl, refl)
 named (CallRet true a) = (refl, refl)
 named (CallRet false a) = (refl, refl)
 
-pub dbg-kind : kind_of (bytes "DBG") ≡ kind.Dbg
+pub dbg-kind : kind_of (bytes "DBG") ≡ Some kind.Dbg
 unfolding rows upper kind_of
 dbg-kind = refl

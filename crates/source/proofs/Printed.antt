@@ -10,6 +10,7 @@ use native.Mathlib.Nat.{lt_of_lt_of_le}
 use lib.Pow.{pow_mono}
 use borrow.Author.Tests.{le-leb, ltb-true, eqb-true}
 use lib.Dec.{eqb}
+use Rattle.std.specs.Prelude.{Some}
 use Rattle.base.specs.Bytes.{bytes}
 use Rattle.base.specs.Choice.{cond}
 use Rattle.base.specs.Told.{is}
@@ -89,7 +90,7 @@ module _ (m : List ℕ) where
   unfolding shift_operands
   turn-back r imm amount h k = rw (comma-back r, opened-number imm h, closed-back 22 amount k)
 
-  transfer-back : (byte store : Bool) (r a : Register) (shift : ℕ) → kind_of m ≡ kind.Transfer byte store → shift < 2 ^ 5 →
+  transfer-back : (byte store : Bool) (r a : Register) (shift : ℕ) → kind_of m ≡ Some (kind.Transfer byte store) → shift < 2 ^ 5 →
       parse (m ∷ comma r ∷ address_tokens a shift) ≡ is (Answers.says (Parse.transferred byte r a store shift))
   unfolding parse takes meaning transfer address bracketed
   transfer-back byte store r a shift k h = go (eqb shift 0) refl

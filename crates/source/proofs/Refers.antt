@@ -7,6 +7,7 @@ use mathlib.Core.List.{[], ◌∷◌}
 use native.Mathlib.Omega.{arith}
 use borrow.Author.Tests.{le-leb, lt-leb, ltb-true, ltb-false}
 use lib.Dec.{ltb}
+use Rattle.std.specs.Prelude.{Option, Some, None}
 use Rattle.base.specs.Choice.{cond}
 use Rattle.base.specs.Told.{is}
 use Rattle.instruction.specs.declared.Operand.TheVariants.{Reg, Imm}
@@ -21,8 +22,7 @@ use Rattle.parser.specs.Operands.{register_names, register}
 use Rattle.parser.specs.Parse.{parse, takes, meaning, target, callee}
 use Rattle.parser.specs.References.{resolved}
 use Rattle.source.specs.declared.aims.Aim.{Aim}
-use Rattle.source.specs.declared.aims.Aim.TheVariants.{Nowhere, To}
-use Rattle.source.specs.Source.{label_name, aim_of, reference_name, refer_line}
+use Rattle.source.specs.Source.{label_name, to, aim_of, reference_name, refer_line}
 use Rattle.source.proofs.Names.{named}
 
 -- ---- a label's name
@@ -68,9 +68,9 @@ refer-parse reference.Call a = rw (named (CallRet false a)).0
 
 -- ---- and the instruction that it is
 
-abbrev Resolves : Aim → Instruction → Type 0
-Resolves Nowhere i = Unit {0}
-Resolves (To r a) i = resolved r a ≡ i
+abbrev Resolves : Option Aim → Instruction → Type 0
+Resolves None i = Unit {0}
+Resolves (Some x) i = resolved x.reference x.address ≡ i
 
 resolves : (i : Instruction) → Resolves (aim_of i) i
 resolves Noop = tt
@@ -89,5 +89,5 @@ resolves (Cmp r o op) = tt
 resolves (CallRet true a) = tt
 resolves (CallRet false a) = refl
 
-pub aim-resolved : (i : Instruction) (r : Reference) (a : ℕ) → aim_of i ≡ To r a → resolved r a ≡ i
-aim-resolved i r a e = subst (λ (x : Aim). Resolves x i) e (resolves i)
+pub aim-resolved : (i : Instruction) (r : Reference) (a : ℕ) → aim_of i ≡ to r a → resolved r a ≡ i
+aim-resolved i r a e = subst (λ (x : Option Aim). Resolves x i) e (resolves i)

@@ -22,8 +22,7 @@ use Rattle.parser.specs.declared.Reference.{Reference}
 use Rattle.asm.specs.Meaning.{instruction, either}
 use Rattle.asm.specs.Named.{Named, label, says, refers, Definition, def, name_line, latest_of, later_of, meant_of}
 use Rattle.asm.proofs.Lines.{says-name, refers-joined, label-name}
-use Rattle.source.specs.declared.aims.Aim.TheVariants.{To}
-use Rattle.source.specs.Source.{plain_line, label_name, aim_of, inside, reference_name, refer_line, label_line, line_of, aims_at, used_by, lines_of}
+use Rattle.source.specs.Source.{plain_line, label_name, to, aim_of, inside, reference_name, refer_line, label_line, line_of, aims_at, used_by, lines_of}
 use Rattle.source.proofs.Cases.{line-cases, label-cases}
 use Rattle.source.proofs.Printed.{line-back}
 use Rattle.source.proofs.Refers.{name-plain, refer-joined, refer-plain, refer-parse, aim-resolved}
@@ -117,7 +116,7 @@ module _ (used : ℕ → Bool) (n : ℕ) (most : n ≤ 32767) where
       line-cases (λ l x. meant_of before k (name_line l ∷ named (k + 1) xs) ≡ map instruction (i ∷ xs)) n i (rw (plain-named i g.0 g.1, ih))
       (λ r a e q. rw (refer-named r a, leads r a e q, aim-resolved i r a e, ih))
     where
-      leads : (r : Reference) (a : ℕ) → aim_of i ≡ To r a → inside n a ≡ true →
+      leads : (r : Reference) (a : ℕ) → aim_of i ≡ to r a → inside n a ≡ true →
           either (latest_of (label_name a) before) (later_of (label_name a) (k + 1) (named (k + 1) xs)) ≡ is a
       leads r a e q =
           let h = labelled a q (u a (rw (e, eq-eqb a a refl))) in

@@ -1,7 +1,7 @@
 -- What request 3 asks of the text, to be held beside its words: "such that plain assembly of it gives the very same words, given room in
 -- the assembler's tables"; "33 NoText with the lowest such word's index, exactly if no accepted line assembles to that word". Proved in
 -- proofs/Back.antt, NoText.antt, Printed.antt and Longest.antt.
-use Rattle.std.specs.Prelude.{ℕ, ◌+◌, ◌≤◌, ◌<◌, ◌≡◌, Bool, true, false, List, [], ◌∷◌, map, length, get_or}
+use Rattle.std.specs.Prelude.{ℕ, ◌+◌, ◌≤◌, ◌<◌, ◌≡◌, Bool, true, false, List, [], ◌∷◌, map, length, get_or, Option, Some, None}
 use Rattle.base.specs.Choice.{cond}
 use Rattle.base.specs.Told.{is}
 use Rattle.instruction.specs.declared.Edition.{Edition}
@@ -15,7 +15,6 @@ use Rattle.asm.specs.Reading.{says, read}
 use Rattle.asm.specs.Work.{Work, work}
 use Rattle.asm.specs.Assemble.{Outcome, accepted, refused, outcome}
 use Rattle.source.specs.declared.aims.Aim.{Aim}
-use Rattle.source.specs.declared.aims.Aim.TheVariants.{Nowhere, To}
 use Rattle.source.specs.Words.{instruction_of, has_text, lowest}
 use Rattle.source.specs.Source.{plain_line, aim_of, inside, source_text, sourced, length_of, refusal, answer, longest_text}
 
@@ -23,9 +22,9 @@ use Rattle.source.specs.Source.{plain_line, aim_of, inside, source_text, sourced
 -- The one refusal that it can get is 28, and then more than 512 of the words refer to a label (those that refer back are counted here too;
 -- that they never wait is the assembler's own definition)
 
-abbrev pub refers : ℕ → Aim → ℕ
-refers n Nowhere = 0
-refers n (To r a) = cond (inside n a) 1 0
+abbrev pub refers : ℕ → Option Aim → ℕ
+refers n None = 0
+refers n (Some x) = cond (inside n x.address) 1 0
 
 -- how many of these refer to a label, in a program of n words
 abbrev pub references : ℕ → List Instruction → ℕ

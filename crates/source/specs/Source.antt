@@ -3,10 +3,11 @@
 -- a label `L` and four upper-case hex digits; a label line stands just before each address so used, nowhere else. Refusals: 16 first,
 -- over 32,767 words; 33 NoText with the lowest such word's index, exactly if no accepted line assembles to that word, found before 19."
 -- Promises.antt has what is asked of the text.
-use Rattle.std.specs.Prelude.{ℕ, ◌+◌, ◌%◌, ◌≤◌, ◌<◌, Bool, true, false, ◌&&◌, ◌||◌, List, [], ◌∷◌, ◌++◌, map, eqb, ltb, length}
+use Rattle.std.specs.Prelude.{ℕ, ◌+◌, ◌%◌, ◌≤◌, ◌<◌, Bool, true, false, ◌&&◌, ◌||◌, List, [], ◌∷◌, ◌++◌, map, eqb, ltb, length, Option, Some, None, Result, Ok, Err}
 use Rattle.base.specs.Bytes.{bytes}
 use Rattle.base.specs.Choice.{cond}
 use Rattle.base.specs.Numbers.{number_of}
+use Rattle.base.specs.declared.refusals.Refusal.{Refusal}
 use Rattle.base.specs.Order.{Refusing, ◌when◌, passing}
 use Rattle.base.specs.Told.{Told, is, no}
 use Rattle.base.specs.Words.{doubled}
@@ -22,10 +23,8 @@ use Rattle.pen.specs.Numbers.{hex}
 use Rattle.text.specs.Lines.{ended}
 use Rattle.parser.specs.declared.Reference.{Reference}
 use Rattle.parser.specs.declared.Reference.TheVariants as reference
-use Rattle.source.specs.declared.Written.{Written}
-use Rattle.source.specs.declared.Written.TheVariants.{Next, Refused}
+use Rattle.source.specs.declared.Fault.{Fault}
 use Rattle.source.specs.declared.aims.Aim.{Aim}
-use Rattle.source.specs.declared.aims.Aim.TheVariants.{Nowhere, To}
 use Rattle.source.specs.Words.{instruction_of, lowest}
 
 -- ---- the line of an instruction: the printer's of edition 2, whose order the parser reads
@@ -54,24 +53,27 @@ unfoldable pub label_name : ℕ → List ℕ
 label_name a = bytes "L" ++ hex a
 
 -- an immediate jump or call, and to where
-abbrev pub jump_to : Reference → Operand → Aim
-jump_to r (Reg x) = Nowhere
-jump_to r (Imm a) = To r a
+abbrev pub to : Reference → ℕ → Option Aim
+to r a = Some (record { reference = r; address = a })
 
-abbrev pub aim_of : Instruction → Aim
-aim_of Noop = Nowhere
-aim_of (Mov d o) = Nowhere
-aim_of (MovShift r amount left imm) = Nowhere
-aim_of (Arith d o op) = Nowhere
-aim_of (ArithRegReg d a b op) = Nowhere
-aim_of (LdrStr r a store shift) = Nowhere
-aim_of (LdbStb r a store shift) = Nowhere
-aim_of (Cpy a b) = Nowhere
+abbrev pub jump_to : Reference → Operand → Option Aim
+jump_to r (Reg x) = None
+jump_to r (Imm a) = to r a
+
+abbrev pub aim_of : Instruction → Option Aim
+aim_of Noop = None
+aim_of (Mov d o) = None
+aim_of (MovShift r amount left imm) = None
+aim_of (Arith d o op) = None
+aim_of (ArithRegReg d a b op) = None
+aim_of (LdrStr r a store shift) = None
+aim_of (LdbStb r a store shift) = None
+aim_of (Cpy a b) = None
 aim_of (Jmp o) = jump_to reference.Jmp o
 aim_of (CondJmp o) = jump_to reference.CondJmp o
-aim_of (Cmp r o op) = Nowhere
-aim_of (CallRet true a) = Nowhere
-aim_of (CallRet false a) = To reference.Call a
+aim_of (Cmp r o op) = None
+aim_of (CallRet true a) = None
+aim_of (CallRet false a) = to reference.Call a
 
 -- an even address inside a program of n words
 unfoldable pub inside : ℕ → ℕ → Bool
@@ -92,16 +94,16 @@ label_line a = label_name a ++ bytes ":"
 -- ---- the lines of a program
 
 -- of n words
-abbrev pub line_by : ℕ → Instruction → Aim → List ℕ
-line_by n i Nowhere = plain_line i
-line_by n i (To r a) = cond (inside n a) (refer_line r a) (plain_line i)
+abbrev pub line_by : ℕ → Instruction → Option Aim → List ℕ
+line_by n i None = plain_line i
+line_by n i (Some x) = cond (inside n x.address) (refer_line x.reference x.address) (plain_line i)
 
 abbrev pub line_of : ℕ → Instruction → List ℕ
 line_of n i = line_by n i (aim_of i)
 
-abbrev pub aims_at : ℕ → Aim → Bool
-aims_at a Nowhere = false
-aims_at a (To r b) = eqb b a
+abbrev pub aims_at : ℕ → Option Aim → Bool
+aims_at a None = false
+aims_at a (Some x) = eqb x.address a
 
 -- is the address used by one of these?
 abbrev pub used_by : List Instruction → ℕ → Bool
@@ -145,9 +147,12 @@ answer_by index (no n) = refusal n (cond (eqb n 33) index 0)
 unfoldable pub answer : List ℕ → ℕ → Answer
 answer ws room = answer_by (lowest ws) (sourced ws room)
 
-abbrev pub answered : Written → Answer
-answered (Next n) = length_of n
-answered (Refused r index) = refusal (number_of r) index
+abbrev pub fault : Refusal → ℕ → Fault
+fault r index = record { refusal = r; index = index }
+
+abbrev pub answered : Result ℕ Fault → Answer
+answered (Ok n) = length_of n
+answered (Err f) = refusal (number_of f.refusal) f.index
 
 -- the buffer: a refusal writes nothing, and the bytes past the text stay
 abbrev pub buffer_by : List ℕ → List ℕ → Told ℕ → List ℕ

@@ -12,9 +12,9 @@ mod words;
 use base::Refusal;
 pub use texts::{text, text_of_bytes};
 
-// What is answered: how long the text is, or the refusal, with the word's index for NoText and 0 for each other.
-#[derive(Clone, Copy)]
-pub enum Written {
-    Next(usize),
-    Refused(Refusal, usize),
+// A refusal, with the word's index for NoText and 0 for each other.
+#[derive(Clone, Copy, Debug, PartialEq, Eq)]
+pub struct Fault {
+    pub refusal: Refusal,
+    pub index: usize,
 }

@@ -9,7 +9,7 @@ ghost use Rattle.source.specs.Marks.{used_in, label_before};
 use crate::aims::{Aim, aim_of, inside};
 use crate::marks::is_marked;
 use crate::words::instruction_of;
-use base::{InstructionIndex, byte_address};
+use base::{ByteAddress, InstructionIndex};
 use instruction::{Edition, Instruction};
 use parser::Reference;
 use pen::{hex, put, put_all, put_text};
@@ -19,20 +19,7 @@ use pen::{hex, put, put_all, put_text};
 fn is_noop(i: Instruction) -> bool
     ensures { result ≡ is_noop i }
 {
-    match i {
-        Instruction::Noop => true,
-        Instruction::Mov(_, _) => false,
-        Instruction::MovShift(_, _, _, _) => false,
-        Instruction::Arith(_, _, _) => false,
-        Instruction::ArithRegReg(_, _, _, _) => false,
-        Instruction::LdrStr(_, _, _, _) => false,
-        Instruction::LdbStb(_, _, _, _) => false,
-        Instruction::Cpy(_, _) => false,
-        Instruction::Jmp(_) => false,
-        Instruction::CondJmp(_) => false,
-        Instruction::Cmp(_, _, _) => false,
-        Instruction::CallRet(_, _) => false,
-    }
+    matches!(i, Instruction::Noop)
 }
 
 fn put_plain(out: &mut [u8], at: usize, i: Instruction) -> usize
@@ -70,17 +57,12 @@ fn put_reference(out: &mut [u8], at: usize, r: Reference, a: u16) -> usize
 }
 
 // By where it aims, in a program of n words.
-fn put_line_by(out: &mut [u8], at: usize, n: usize, i: Instruction, aim: Aim) -> usize
+fn put_line_by(out: &mut [u8], at: usize, n: usize, i: Instruction, aim: Option<Aim>) -> usize
     ensures { pen out.new result ≡ wrote (pen out.old at) (line_by n i aim) }
 {
     match aim {
-        Aim::Nowhere => put_plain(out, at, i),
-        Aim::To(r, a) => {
-            if inside(n, a) {
-                return put_reference(out, at, r, a);
-            }
-            put_plain(out, at, i)
-        }
+        Some(x) if inside(n, x.address) => put_reference(out, at, x.reference, x.address),
+        _ => put_plain(out, at, i),
     }
 }
 
@@ -94,28 +76,26 @@ fn put_line(out: &mut [u8], at: usize, n: usize, i: Instruction) -> usize
 }
 
 // Where the word is marked.
-fn put_label(out: &mut [u8], at: usize, used: &[u8], k: InstructionIndex) -> usize
+fn put_label(out: &mut [u8], at: usize, used: &[bool], k: InstructionIndex) -> usize
     ensures { pen out.new result ≡ wrote (pen out.old at) (label_before (used_in used.now) k.0) }
 {
     if !is_marked(used, k.0 as usize) {
         return at;
     }
-    let address = byte_address(k);
+    let address = ByteAddress::from(k);
     let p = put_name(out, at, address.0);
     put_all(out, p, b":\n")
 }
 
 // A line for each word, after a label line where the word is marked.
-pub fn put_lines(out: &mut [u8], words: &[u16], used: &[u8]) -> usize
+pub fn put_lines(out: &mut [u8], words: &[u16], used: &[bool]) -> usize
     requires { length words.now ≤ 32767 }
     ensures { pen out.new result ≡ wrote (pen out.old 0) (ended (lines_of (used_in used.now) (length words.now) 0 (map instruction_of words.now))) }
 {
-    let mut p: usize = 0;
-    let mut k: usize = 0;
-    while k < words.len() {
+    let mut p = 0;
+    for (k, w) in words.iter().enumerate() {
         p = put_label(out, p, used, InstructionIndex(k as u16));
-        p = put_line(out, p, words.len(), instruction_of(words[k]));
-        k += 1;
+        p = put_line(out, p, words.len(), instruction_of(*w));
     }
     p
 }

@@ -7,37 +7,27 @@ ghost use Rattle.source.specs.Marks.{marked_by, marked, is_marked};
 use crate::aims::{Aim, aim_of};
 use crate::words::instruction_of;
 
-fn mark(used: &mut [u8], aim: Aim)
+fn mark(used: &mut [bool], aim: Option<Aim>)
     ensures { used.new ≡ marked_by aim used.old }
 {
-    match aim {
-        Aim::Nowhere => {}
-        Aim::To(_, a) => {
-            let k = (a / 2) as usize;
-            if a % 2 == 0 {
-                if k < used.len() {
-                    used[k] = 1;
-                }
-            }
+    if let Some(x) = aim {
+        let k = (x.address / 2) as usize;
+        if x.address % 2 == 0 && k < used.len() {
+            used[k] = true;
         }
     }
 }
 
-pub fn mark_all(words: &[u16], used: &mut [u8])
+pub fn mark_all(words: &[u16], used: &mut [bool])
     ensures { used.new ≡ marked (map instruction_of words.now) used.old }
 {
-    let mut i: usize = 0;
-    while i < words.len() {
-        mark(used, aim_of(instruction_of(words[i])));
-        i += 1;
+    for w in words {
+        mark(used, aim_of(instruction_of(*w)));
     }
 }
 
-pub fn is_marked(used: &[u8], k: usize) -> bool
+pub fn is_marked(used: &[bool], k: usize) -> bool
     ensures { result ≡ is_marked used.now k }
 {
-    if k < used.len() {
-        return used[k] == 1;
-    }
-    false
+    used.get(k).copied().unwrap_or(false)
 }

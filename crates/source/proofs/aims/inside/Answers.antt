@@ -11,6 +11,6 @@ pub returns-then-a-eq0 : goal.returns-then-a-eq0
 unfolding inside
 returns-then-a-eq0 c = let a = c.args.a in let n = c.args.n in rw c.if-a-eq0.true (ltb-same (a / 2) n a (doubled n) (λ h. omega arith) (λ h. omega arith))
 
-pub returns : goal.returns
+pub returns-else-a-eq0 : goal.returns-else-a-eq0
 unfolding inside
-returns c = rw (ne_eqb _ 0 c.if-a-eq0.false)
+returns-else-a-eq0 c = rw (ne_eqb _ 0 c.if-a-eq0.false)

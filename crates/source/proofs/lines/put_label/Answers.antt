@@ -19,4 +19,4 @@ pub returns : goal.returns
 unfolding label_line
 returns c = let half : doubled c.args.k.0 / 2 ≡ c.args.k.0 = omega arith in
     let e : used_in c.args.used.now (doubled c.args.k.0) ≡ true = ap (is_marked c.args.used.now) half ∙ sym c.is_marked.ensures ∙ c.if-not-is_marked.false in
-    rw e (c.put_all.ensures ∙ rw (c.put_name-p.ensures, c.byte_address-address.ensures) (simp (joined, append_snoc)))
+    rw e (c.put_all.ensures ∙ rw (c.put_name-p.ensures, c.from-address.ensures) (simp (joined, append_snoc)))

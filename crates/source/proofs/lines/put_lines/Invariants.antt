@@ -1,7 +1,6 @@
 -- What is left to write, the lines from word k on, makes the whole: a turn writes the first of them, after its label line. Assumes nothing.
 use mathlib.Core.Path.{◌≡◌}
 use mathlib.Core.List.{map}
-use Prim.Native.Nat.{◌-◌, ◌≤◌}
 use lib.ListN.{length, drop}
 use Rattle.pen.specs.Pen.{pen, wrote}
 use Rattle.text.specs.Lines.{ended}
@@ -11,8 +10,6 @@ use Rattle.source.specs.Marks.{used_in}
 use Rattle.source.proofs.lines.put_lines.Given as goal
 
 abbrev pub invariant-loop-k : goal.invariant-loop-k
-invariant-loop-k l = (l.k ≤ length l.words) × (length l.out ≡ length l.initial.out) ×
-    (wrote (pen l.initial.out 0) (ended (lines_of (used_in l.used) (length l.words) 0 (map instruction_of l.words))) ≡ wrote (pen l.out l.p) (ended (lines_of (used_in l.used) (length l.words) l.k (map instruction_of (drop l.k l.words)))))
-
-abbrev pub decreases-loop-k : goal.decreases-loop-k
-decreases-loop-k l = length l.words - l.k
+invariant-loop-k l =
+    wrote (pen l.initial.out 0) (ended (lines_of (used_in l.used) (length l.words) 0 (map instruction_of l.words)))
+    ≡ wrote (pen l.out l.p) (ended (lines_of (used_in l.used) (length l.words) l.k (map instruction_of (drop l.k l.words))))

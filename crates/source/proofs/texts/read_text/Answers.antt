@@ -6,7 +6,7 @@ use Rattle.source.proofs.ByteLaws.{ends-long, ends_read}
 use Rattle.source.proofs.texts.read_text.Goals as goal
 
 pub returns-then-n-gt32767 : goal.returns-then-n-gt32767
-returns-then-n-gt32767 c = let told = ends-long c.args.bytes.now c.args.out.now c.requires.bytes_len c.if-n-gt32767.true in record { result_value = told.0; out_after = told.1.0; small = told.1.1 }
+returns-then-n-gt32767 c = let told = ends-long c.args.bytes.now c.args.out.now c.requires.bytes_len c.if-n-gt32767.true in rw c.from.ensures (record { result_value = told.0; out_after = told.1.0; small = told.1.1 })
 
 pub slice_bounds-read_words-end-2 : goal.slice_bounds-read_words-end-2
 slice_bounds-read_words-end-2 c = sym (lent-part c.args.bytes.now c.args.own.now (omega (arith, c.if-n-gt32767.false, c.requires.own_len)))
