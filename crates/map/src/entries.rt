@@ -1,5 +1,5 @@
 // What the entries of both tables have in common, and the rules over a table of them.
-ghost use Rattle.std.specs.Prelude.{◌≡◌, ◌≤◌, Bool, length, take, drop, leb, not, ◌&&◌};
+ghost use Rattle.std.specs.Prelude.{◌≡◌, ◌≤◌, min, Bool, length, take, drop, leb, not, ◌&&◌};
 ghost use Rattle.map.specs.Tables.{any, sound};
 
 // An entry of a table.
@@ -23,7 +23,14 @@ pub trait Entry: Copy {
         ensures { result ≡ overlaps self other };
 }
 
-// The entries in use, where the count may be anything.
+// How many entries of a table of eight are in use, where the count may be anything.
+pub fn used(count: u16) -> usize
+    ensures { result ≡ min count 8 }
+{
+    usize::from(count).min(8)
+}
+
+// The entries in use.
 pub fn in_use<T: Entry>(count: u16, table: &[T]) -> &[T]
     ensures { result.now ≡ take count table.now }
 {

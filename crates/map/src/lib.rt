@@ -1,5 +1,6 @@
 // The memory map: which addresses are protected, which a device covers, and where the byte of an address is.
 // No byte is read or stored here. Tables may hold anything, and every function answers.
+// (b): what a step asks goes over the tables by number. An iterator would borrow the map, and each step would copy it (docs/BENCHMARKS.md).
 #![tactic(auto)]
 
 mod devices;

@@ -4,16 +4,17 @@ ghost use Rattle.map.specs.Tables.{any};
 ghost use Rattle.map.specs.Devices.{covers_either, used_devices};
 ghost use Rattle.map.specs.Places.{place, in_bank, in_linear, target, somewhere, linear_word};
 
+use crate::entries::used;
 use crate::regions::is_protected;
 use crate::{Map, Place};
 
 // Where the byte of address a is, with mem bytes of linear memory and dev bytes in the device buffer.
-#[tactic(auto, using(crate::proofs::Scans::place_turn, crate::proofs::Scans::place_end), unfolding(crate::specs::Places::place))]
 pub fn place_of(m: Map, mem: usize, dev: usize, a: u16) -> Place
     ensures { result ≡ place m mem dev a }
 {
     let mut base: usize = 0;
-    for (number, d) in m.used_devices().iter().enumerate() {
+    for number in 0..used(m.devices) {
+        let d = m.device[number];
         if d.covers(a) {
             return in_bank(number, a - d.start, base, dev);
         }
@@ -70,12 +71,16 @@ pub fn is_somewhere(p: Place) -> bool
 }
 
 // Whether a device in use covers an address or the next one.
-#[tactic(auto, unfolding(crate::specs::Tables::any))]
 fn device_within(m: Map, a: u16, b: u16) -> bool
     requires { b ≡ a + 1 }
     ensures { result ≡ any (covers_either a b) (used_devices m) }
 {
-    m.used_devices().iter().any(|d| d.covers_either(a, b))
+    for number in 0..used(m.devices) {
+        if m.device[number].covers_either(a, b) {
+            return true;
+        }
+    }
+    false
 }
 
 // Whether both bytes of the word at a are linear: they are there, and no device covers one of them.

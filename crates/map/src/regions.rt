@@ -2,7 +2,7 @@
 ghost use Rattle.std.specs.Prelude.{◌≡◌};
 ghost use Rattle.map.specs.Regions.{region_covers, regions_overlap, region_in_range, region_is_set, used_regions, protected};
 
-use crate::entries::{Entry, in_use};
+use crate::entries::{Entry, in_use, used};
 use crate::{Map, Region};
 
 impl Region {
@@ -49,9 +49,13 @@ impl Map {
 }
 
 // Whether a region in use protects address a.
-#[tactic(auto, unfolding(crate::specs::Regions::protected, crate::specs::Tables::any))]
 pub fn is_protected(m: Map, a: u16) -> bool
     ensures { result ≡ protected m a }
 {
-    m.used_regions().iter().any(|r| r.covers(a))
+    for i in 0..used(m.regions) {
+        if m.region[i].covers(a) {
+            return true;
+        }
+    }
+    false
 }

@@ -1,8 +1,9 @@
--- The place found from a device on, with those before it passed over, is the place. Assumes nothing.
+-- The place found from entry i on, with the devices before it passed over, is the place. Assumes nothing.
 use Rattle.std.proofs.Common.{◌≡◌, ◌*◌, ◌≤◌, drop}
-use Rattle.map.specs.Places.{place_from}
+use Rattle.map.specs.Devices.{used_devices}
+use Rattle.map.specs.Places.{place, place_from}
 use Rattle.map.proofs.places.place_of.Given as goal
 
 abbrev pub invariant-loop-number : goal.invariant-loop-number
 invariant-loop-number l =
-    (l.base ≤ 65535 * l.number) × (place_from l.d-items 0 0 l.mem l.dev l.a ≡ place_from (drop l.number l.d-items) l.number l.base l.mem l.dev l.a)
+    (l.base ≤ 65535 * l.number) × (place l.m l.mem l.dev l.a ≡ place_from (drop l.number (used_devices l.m)) l.number l.base l.mem l.dev l.a)
