@@ -1,12 +1,17 @@
--- When a report fits: exactly where each of its counts has sixteen bits. Assumes nothing.
-use Prim.Native.Nat.{ℕ, ◌<◌}
+-- When a report fits: exactly where each of its counts has sixteen bits; and when a count does. Assumes nothing.
+use Prim.Native.Nat.{ℕ, ◌<◌, ◌≤◌}
+use native.Mathlib.Omega.{arith}
+use Rattle.std.specs.Prelude.{Result, Ok, Err}
+use Rattle.base.specs.Told.{told}
+use Rattle.base.specs.declared.refusals.Refusal.{Refusal}
+use Rattle.memory.specs.Blocks.{counted}
 use mathlib.Core.Path.{◌≡◌, refl, sym, ap, ◌∙◌}
 use mathlib.Core.Bool.{true}
 use lib.Dec.{ltb}
 use borrow.Author.Tests.{ltb-true, lt-ltb}
 use Rattle.base.proofs.Tests.{first, second, third}
 use Rattle.asm.specs.Assemble.{Report, counts, refusal}
-use Rattle.numbers.specs.Answers.{fitting}
+use Rattle.numbers.specs.Answers.{listed_number, fitting}
 
 pub counts-fit : {r : Report} {words labels waiting : ℕ} → r ≡ counts words labels waiting → fitting r ≡ true
     → (words < 65536) × (labels < 65536) × (waiting < 65536)
@@ -25,3 +30,8 @@ fit-counts words labels waiting a b c = rw (lt-ltb words 65536 a, lt-ltb labels 
 pub fit-refusal : (n line : ℕ) → fitting (refusal n line) ≡ true
 unfolding fitting
 fit-refusal n line = refl
+
+-- a number of sixteen bits below a count holds the count
+pub count-fits : (a : Result ℕ Refusal) → listed_number (told a) ≤ 18446744073709551615 → (counted a).count ≤ 281474976710655
+count-fits (Ok n) h = omega arith
+count-fits (Err r) h = omega arith

@@ -2,7 +2,8 @@
 -- number, 256 for Debug, 257 for Stop. What is counted stands in the bits above.
 use Rattle.std.specs.Prelude.{ℕ, ◌+◌, ◌*◌, min, Bool, true, ◌&&◌, ltb}
 use Rattle.base.specs.Told.{Told, is, no}
-use Rattle.machine.specs.Answers.{Reply, Continue, Debug, Stop}
+use Rattle.machine.specs.declared.StepAnswer.{StepAnswer}
+use Rattle.machine.specs.declared.StepAnswer.TheVariants.{Continue, Debug, Stop}
 use Rattle.memory.specs.Blocks.{Counted}
 use Rattle.asm.specs.Assemble.{Report, counts}
 use Rattle.asm.specs.Assemble as Assemble
@@ -11,7 +12,7 @@ use Rattle.source.specs.Source.{Answer, length_of, refusal}
 abbrev pub coded : ℕ → ℕ → ℕ
 coded code above = code + 65536 * above
 
-abbrev pub step_code : Told Reply → ℕ
+abbrev pub step_code : Told StepAnswer → ℕ
 step_code (is Continue) = 0
 step_code (is Debug) = 256
 step_code (is Stop) = 257

@@ -4,5 +4,5 @@
 mod answers;
 mod ranges;
 
-pub use answers::{bad_block, of_answer, of_assembly, of_list, of_read, of_run, of_step, of_text};
-pub use ranges::{narrow_len, narrow_start};
+pub use answers::{bad_block, of_answer, of_assembly, of_count, of_run, of_step, of_text};
+pub use ranges::narrow;
