@@ -1,7 +1,7 @@
 -- What is left to mark makes the whole: a turn marks for the first of the words that are left. Assumes nothing.
 use mathlib.Core.Path.{◌≡◌}
 use mathlib.Core.List.{map}
-use lib.ListN.{length, drop}
+use lib.ListN.{drop}
 use Rattle.source.specs.Words.{instruction_of}
 use Rattle.source.specs.Marks.{marked}
 use Rattle.source.proofs.marks.mark_all.Given as goal
