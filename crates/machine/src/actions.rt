@@ -16,18 +16,21 @@ use map::Map;
 use memory::Changes;
 
 // Nothing but PC.
+#[tactic(auto, unfolding(crate::specs::Acts::noop))]
 pub fn noop(mode: Mode, s: &[u16; 8]) -> Result<Move, Refusal>
     ensures { Moves s.now result (λ g. finished g (act.noop mode g)) }
 {
     stay(s, mode.debug, Changes::Nothing)
 }
 
+#[tactic(auto, unfolding(crate::specs::Acts::mov))]
 pub fn mov(s: &[u16; 8], d: Register, o: Operand) -> Result<Move, Refusal>
     ensures { Moves s.now result (λ g. finished g (act.mov g d o)) }
 {
     go_on(s, d, operand(s, o), Changes::Nothing)
 }
 
+#[tactic(auto, unfolding(crate::specs::Acts::mov_shift))]
 pub fn mov_shift(
     s: &[u16; 8],
     d: Register,
@@ -42,6 +45,7 @@ pub fn mov_shift(
 }
 
 // Where a remainder goes: its low byte at the old SP, if that takes a store.
+#[tactic(auto, unfolding(crate::specs::Acts::at_old_sp))]
 fn at_old_sp(m: Map, mem: &[u8], dev: &[u8], s: &[u16; 8], x: Result<u16, Refusal>) -> Changes
     ensures { result ≡ act.at_old_sp m (lent mem.now dev.now) (regs s.now) (told x) }
 {
@@ -51,6 +55,7 @@ fn at_old_sp(m: Map, mem: &[u8], dev: &[u8], s: &[u16; 8], x: Result<u16, Refusa
     }
 }
 
+#[tactic(auto, unfolding(crate::specs::Acts::kept))]
 fn kept_by_div(m: Map, mem: &[u8], dev: &[u8], s: &[u16; 8], x: u16, y: u16) -> Changes
     ensures { result ≡ act.kept m (lent mem.now dev.now) (regs s.now) ArithOp.Div x y }
 {
@@ -62,6 +67,7 @@ fn kept_by_div(m: Map, mem: &[u8], dev: &[u8], s: &[u16; 8], x: u16, y: u16) -> 
 }
 
 // What Arith stores beside its result: a division's remainder, where FLAGS bit 1 asks for it.
+#[tactic(auto, unfolding(crate::specs::Acts::kept))]
 fn kept(m: Map, mem: &[u8], dev: &[u8], s: &[u16; 8], op: ArithOp, x: u16, y: u16) -> Changes
     ensures { result ≡ act.kept m (lent mem.now dev.now) (regs s.now) op x y }
 {
@@ -73,6 +79,7 @@ fn kept(m: Map, mem: &[u8], dev: &[u8], s: &[u16; 8], op: ArithOp, x: u16, y: u1
     }
 }
 
+#[tactic(auto, unfolding(crate::specs::Acts::arith))]
 pub fn arith(
     m: Map,
     mem: &[u8],
@@ -90,6 +97,7 @@ pub fn arith(
     settle(s, d, arithmetic::arith(op, x, y), c)
 }
 
+#[tactic(auto, unfolding(crate::specs::Acts::arith_reg_reg))]
 pub fn arith_reg_reg(
     s: &[u16; 8],
     d: Register,
@@ -103,6 +111,7 @@ pub fn arith_reg_reg(
     settle(s, d, v, Changes::Nothing)
 }
 
+#[tactic(auto, unfolding(crate::specs::Acts::cmp, crate::specs::Acts::marked))]
 pub fn cmp(s: &[u16; 8], r: Register, o: Operand, op: CompareOp) -> Result<Move, Refusal>
     ensures { Moves s.now result (λ g. finished g (act.cmp g r o op)) }
 {

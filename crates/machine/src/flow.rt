@@ -19,6 +19,7 @@ pub fn jmp(s: &[u16; 8], o: Operand) -> Move
 }
 
 // The flag that it looks at is cleared before its operand is read.
+#[tactic(auto, unfolding(crate::specs::Acts::cond_jmp, crate::specs::Acts::jmp, crate::specs::Acts::marked))]
 pub fn cond_jmp(s: &[u16; 8], o: Operand) -> Result<Move, Refusal>
     ensures { Moves s.now result (λ g. finished g (act.cond_jmp g o)) }
 {

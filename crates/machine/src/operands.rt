@@ -24,6 +24,7 @@ pub fn get_after(s: [u16; 8], d: Register, v: u16, r: Register) -> u16
     if u16::from(d) as usize == i { v } else { s[i] }
 }
 
+#[tactic(auto, unfolding(crate::specs::Registers::operand))]
 pub fn operand(s: &[u16; 8], o: Operand) -> u16
     ensures { result ≡ operand (regs s.now) o }
 {
@@ -33,6 +34,7 @@ pub fn operand(s: &[u16; 8], o: Operand) -> u16
     }
 }
 
+#[tactic(auto, unfolding(crate::specs::Registers::operand))]
 pub fn operand_after(s: [u16; 8], d: Register, v: u16, o: Operand) -> u16
     ensures { result ≡ operand (put (regs s) d v) o }
 {
@@ -43,6 +45,7 @@ pub fn operand_after(s: [u16; 8], d: Register, v: u16, o: Operand) -> u16
 }
 
 // Whether a bit of FLAGS is set.
+#[tactic(auto, unfolding(crate::specs::Registers::flag))]
 pub fn flag(s: &[u16; 8], bit: usize) -> bool
     requires { bit < 16 }
     ensures { result ≡ flag (regs s.now) bit }

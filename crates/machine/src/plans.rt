@@ -75,6 +75,7 @@ pub fn stay(s: &[u16; 8], pause: bool, c: Changes) -> Result<Move, Refusal>
 }
 
 // d gets v, and PC its own number, which is not raised.
+#[tactic(auto, unfolding(crate::specs::Plan::finished))]
 pub fn land(s: &[u16; 8], d: Register, v: u16, pc: u16) -> Move
     ensures { Moves s.now (Ok result) (λ g. finished g (is (jump (put (put g d v) PC pc)))) }
 {

@@ -7,6 +7,7 @@ use crate::{Machine, Mode, Registers};
 use base::Refusal;
 
 // Any registers are valid, and either mode: the tables decide.
+#[tactic(auto, unfolding(crate::specs::States::valid))]
 pub fn valid(m: Machine, dev: &[u8]) -> bool
     ensures { result ≡ valid m dev.now }
 {

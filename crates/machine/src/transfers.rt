@@ -47,6 +47,7 @@ fn end_store(s: &[u16; 8], d: Decision) -> Result<Move, Refusal>
     }
 }
 
+#[tactic(auto, unfolding(crate::specs::Acts::word_at))]
 fn word_at(
     m: Map,
     mem: &[u8],
@@ -65,6 +66,7 @@ fn word_at(
     }
 }
 
+#[tactic(auto, unfolding(crate::specs::Acts::byte_at))]
 fn byte_at(
     m: Map,
     mem: &[u8],
