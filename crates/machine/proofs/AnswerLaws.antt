@@ -2,7 +2,6 @@
 use mathlib.Core.Path.{◌≡◌, sym, ap}
 use Rattle.std.specs.Prelude.{Result, Ok, Err}
 use Rattle.base.specs.Numbers.{number_of}
-use Rattle.base.specs.Told.{Told, is, no}
 use Rattle.base.specs.declared.refusals.Refusal.{Refusal}
 use Rattle.base.proofs.Laws.{number-one}
 use Rattle.base.proofs.ToldLaws.{is-not-no, is_one, no_one}

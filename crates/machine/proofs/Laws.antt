@@ -9,7 +9,7 @@ use lib.ListN.{length}
 use Rattle.base.specs.Choice.{cond}
 use Rattle.base.specs.Told.{Told, is, no}
 use Rattle.base.specs.Addresses.{raised_pc}
-use Rattle.std.specs.Prelude.{Option, Some}
+use Rattle.std.specs.Prelude.{Some}
 use Rattle.base.proofs.AddressLaws.{reached-at}
 use Rattle.base.proofs.ToldLaws.{is-not-no, Numbered}
 use Rattle.instruction.specs.Decode.{decode}

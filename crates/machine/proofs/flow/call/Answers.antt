@@ -1,7 +1,7 @@
 -- M is the raised PC, where there is one. Assumes nothing.
 use mathlib.Core.Path.{◌≡◌, sym, ap, ◌∙◌}
 use native.Mathlib.Omega.{arith}
-use Rattle.std.specs.Prelude.{Option, Some}
+use Rattle.std.specs.Prelude.{Some}
 use Rattle.base.specs.Addresses.{raised_pc}
 use Rattle.instruction.specs.declared.Register.TheVariants.{PC}
 use Rattle.machine.specs.Registers.{get}
