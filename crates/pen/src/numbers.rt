@@ -5,7 +5,7 @@ ghost use Rattle.pen.specs.Pen.{pen, wrote};
 
 use crate::writing::put_all;
 
-// The last digit. By hand, since `{:X}` is known only where writing answers Ok (as in the printer).
+// The last digit. By hand: `io::hex` writes small letters, and what `{:X}` writes is known only where it answers Ok.
 fn hex_digit(n: u32) -> u8
     ensures { result ≡ hex_digit (n % 16) }
 {

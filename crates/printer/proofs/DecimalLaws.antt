@@ -1,5 +1,6 @@
--- Where a number has no more digits than are allowed, allowing more changes nothing; and its digits say the number. Assumes nothing.
-use mathlib.Core.Path.{◌≡◌, refl, sym, ap, ◌∙◌}
+-- Where a number has no more digits than are allowed, allowing more changes nothing; the library's digits are these; and they say the number.
+-- Assumes nothing.
+use mathlib.Core.Path.{◌≡◌, refl, sym, ap, ap₂, subst, ◌∙◌}
 use mathlib.Core.Bool.{Bool, true, false}
 use mathlib.Core.List.{List, [], ◌∷◌, ◌++◌}
 use Prim.Native.Nat.{ℕ, zero, suc, ◌+◌, ◌-◌, ◌*◌, ◌/◌, ◌%◌, ◌^◌, ◌≤◌, ◌<◌, zero-le}
@@ -8,6 +9,7 @@ use native.Mathlib.Omega.{arith}
 use borrow.Author.Tests.{lt-ltb, le-ltb}
 use lib.Dec.{ltb}
 use lib.ListN.{length, length-append}
+use Rattle.io.specs.Digits.{hex_digit_ascii, last_digits, IsDigitCount}
 use Rattle.base.specs.Choice.{cond}
 use Rattle.printer.specs.Line.{added}
 use Rattle.printer.proofs.LineLaws.{whole}
@@ -62,6 +64,41 @@ digits-length (suc k) n = go (ltb n 10) (digits-length k (n / 10))
 -- a line has room for twenty
 pub digits_whole : (n : ℕ) → added [] (digits 20 n) ≡ digits 20 n
 digits_whole n = whole (digits 20 n) (omega (arith, digits-length 20 n))
+
+-- ---- the library's digits
+
+glyph : (d : ℕ) → d < 10 → hex_digit_ascii d ≡ digit d
+glyph d h = rw (lt-ltb d 10 h)
+
+by-count : (j k n : ℕ) → 1 ≤ k → k ≤ j → n < 10 ^ k → ((m : ℕ) → k ≡ suc (suc m) → 10 ^ suc m ≤ n) → digits j n ≡ last_digits 10 k n
+by-count j zero n a b h g = absurd (omega arith)
+by-count zero (suc k) n a b h g = absurd (omega arith)
+by-count (suc j) (suc zero) n a b h g =
+    let s : n < 10 = h in
+    let e : n % 10 ≡ n = omega arith in
+    digits-one j n s ∙ ap (λ (x : ℕ). x ∷ []) (sym (glyph (n % 10) (omega arith) ∙ ap digit e))
+by-count (suc j) (suc (suc k)) n a b h g =
+    let t : 10 ^ suc k ≤ n = g k refl in
+    let one : 1 ≤ suc k = omega arith in
+    let base : 0 < 10 = omega arith in
+    let u : 10 ≤ 10 ^ suc k = pow-le-pow_right base one in
+    tens j n (omega arith)
+    ∙ ap₂ ◌++◌ (by-count j (suc k) (n / 10) (omega arith) (omega arith) (fewer k n h) next) (ap (λ (x : ℕ). x ∷ []) (sym (glyph (n % 10) (omega arith))))
+  where
+    next : (m : ℕ) → suc k ≡ suc (suc m) → 10 ^ suc m ≤ n / 10
+    next m e =
+        let t : 10 ^ suc k ≤ n = g k refl in
+        let p : 10 ^ suc k ≡ 10 ^ suc m * 10 = ap (λ (x : ℕ). 10 ^ x) e ∙ pow-suc 10 (suc m) in
+        omega arith
+
+-- as many as it counts, at most twenty
+pub library_digits : (n k : ℕ) → k ≤ 20 → IsDigitCount 10 1 n k → last_digits 10 k n ≡ digits 20 n
+library_digits n k b c = sym (by-count 20 k n c.0 b c.1 first)
+  where
+    first : (m : ℕ) → k ≡ suc (suc m) → 10 ^ suc m ≤ n
+    first m e =
+        let p : k - 1 ≡ suc m = omega arith in
+        subst (λ (x : ℕ). 10 ^ x ≤ n) p (c.2 (omega arith))
 
 -- ---- the number that digits say
 

@@ -6,17 +6,14 @@ ghost use Rattle.printer.specs.Text.{digits, immediate_of};
 use crate::lines::Line;
 
 impl Line {
-    // The digits of the tens, then the last one. No `write!`: what that writes is known only where it answers Ok, and `print` promises
-    // the text in every case.
+    // At most twenty digits.
+    #[tactic(auto, using(crate::proofs::DecimalLaws::library_digits))]
     pub(crate) fn decimal(&mut self, n: usize)
         ensures { self.new.text.items ≡ added self.old.text.items (digits 20 n) }
     {
-        if n < 10 {
-            self.add(&[48 + n as u8]);
-            return;
-        }
-        self.decimal(n / 10);
-        self.add(&[48 + (n % 10) as u8]);
+        let mut text = [0; 20];
+        let length = io::decimal(n as u64, &mut text);
+        self.add(&text[..length]);
     }
 
     #[tactic(auto, using(crate::proofs::LineLaws::joined, crate::proofs::DecimalLaws::decimal_twenty), unfolding(crate::specs::Text::immediate_of))]
