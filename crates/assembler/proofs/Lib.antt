@@ -1,4 +1,2 @@
-mod LineLaws
 pub mod LoopLaws
-pub mod Saying
 pub mod TextLaws

@@ -7,10 +7,12 @@ use mathlib.Core.Path.{◌≡◌, ◌∙◌, ap}
 use Rattle.labels.specs.declared.Label.{Label}
 use Rattle.asm.specs.Assemble.{Outcome, outcome, filled, words_of, labels_left, report, reported}
 use Rattle.asm.specs.Views.{EndedWith, word_count, label_count}
-use Rattle.asm.specs.declared.Assembled.{Assembled}
+use Rattle.asm.specs.declared.Totals.{Totals}
+use Rattle.asm.specs.declared.Fault.{Fault}
+use Rattle.std.specs.Prelude.{Result}
 use Rattle.table.specs.Table as Table
 
-module _ (a : Assembled) (ws : List ℕ) (ls : List Label) (o : Outcome) (end : EndedWith a ws ls o) where
+module _ (a : Result Totals Fault) (ws : List ℕ) (ls : List Label) (o : Outcome) (end : EndedWith a ws ls o) where
   -- cleared from the k-th on, where the answer counts k
   pub words-cleared : (n k : ℕ) (zs : List ℕ) → length ws ≡ n → k ≡ word_count a → zs ≡ filled (length ws) (take k ws) → zs ≡ filled n (words_of o)
   words-cleared n k zs l c e =
@@ -25,7 +27,7 @@ module _ (strict : Bool) (text : List ℕ) (room n : ℕ) (l : Label) where
   pub same_outcome : outcome strict text room (length (replicate n l)) ≡ outcome strict text room n
   same_outcome = ap (outcome strict text room) (length-replicate n l)
 
-  pub report-of : (a : Assembled) → reported a ≡ report (outcome strict text room (length (replicate n l))) → reported a ≡ report (outcome strict text room n)
+  pub report-of : (a : Result Totals Fault) → reported a ≡ report (outcome strict text room (length (replicate n l))) → reported a ≡ report (outcome strict text room n)
   report-of a e = e ∙ ap report same_outcome
 
   pub words-of : (zs : List ℕ) → zs ≡ filled room (words_of (outcome strict text room (length (replicate n l)))) → zs ≡ filled room (words_of (outcome strict text room n))

@@ -2,7 +2,6 @@
 // is `asm`'s.
 #![tactic(auto)]
 
-mod answers;
 mod lines;
 mod texts;
 

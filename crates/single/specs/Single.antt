@@ -1,7 +1,6 @@
 -- The single line: 26 first, blank is 23, an unknown label 25. It knows neither labels nor comments, and isn't strict.
-use Rattle.std.specs.Prelude.{ℕ, List, eqb}
+use Rattle.std.specs.Prelude.{ℕ, List, Option, Some, None, eqb}
 use Rattle.base.specs.Choice.{cond}
-use Rattle.base.specs.Numbers.{number_of}
 use Rattle.base.specs.Told.{Told, is, no}
 use Rattle.instruction.specs.declared.Instruction.{Instruction}
 use Rattle.text.specs.Tokens.{tokens}
@@ -12,18 +11,11 @@ use Rattle.parser.specs.Answers.{Meaning, says, refers}
 use Rattle.parser.specs.Parse.{parse}
 use Rattle.labels.specs.declared.Label.{Label}
 use Rattle.labels.specs.declared.Found.{Found}
-use Rattle.labels.specs.declared.Found.TheVariants.{Nothing, At}
 use Rattle.labels.specs.Labels.{find}
-use Rattle.single.specs.declared.LineAnswer.{LineAnswer}
-use Rattle.single.specs.declared.LineAnswer.TheVariants.{Is, Refused}
 
-abbrev pub told_line : LineAnswer → Told Instruction
-told_line (Is i) = is i
-told_line (Refused r) = no (number_of r)
-
-abbrev pub known : Reference → Found → Told Instruction
-known r (At i a) = is (resolved r a)
-known r Nothing = no 25
+abbrev pub known : Reference → Option Found → Told Instruction
+known r (Some f) = is (resolved r f.address)
+known r None = no 25
 
 abbrev pub meant : List ℕ → List Label → Told Meaning → Told Instruction
 meant text labels (is (says i)) = is i

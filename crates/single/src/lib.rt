@@ -3,13 +3,4 @@
 
 mod lines;
 
-use base::Refusal;
-use instruction::Instruction;
 pub use lines::parse_assembly_line;
-
-// What reading a single line answers.
-#[derive(Clone, Copy)]
-pub enum LineAnswer {
-    Is(Instruction),
-    Refused(Refusal),
-}

@@ -3,6 +3,8 @@ use Prim.Native.Nat.{ℕ}
 use borrow.Author.Tests.{eq-eqb, ne_eqb}
 use mathlib.Core.List.{List}
 use mathlib.Core.Path.{◌∙◌, ◌≡◌, ap, sym}
+use Rattle.std.proofs.lemmas.Result.{err_from_is_err_and}
+use Rattle.std.specs.Prelude.{Ok}
 use Rattle.base.specs.Numbers.{number_of}
 use Rattle.base.specs.Told.{Told, is, no}
 use Rattle.labels.specs.declared.Label.{Label}
@@ -23,24 +25,26 @@ meaning line text labels m ascii e =
 
 pub returns-then-foreign_line-ne0 : goal.returns-then-foreign_line-ne0
 unfolding single
-returns-then-foreign_line-ne0 c = let line = c.args.line.now in
+returns-then-foreign_line-ne0 c =
+    let line = c.args.line.now in
     let foreign : foreign_line 1 line ≡ 0 → ⊥ = λ e. c.if-foreign_line-ne0.true (c.foreign_line.ensures ∙ e) in
     λ text labels e. rw (ne_eqb (foreign_line 1 line) 0 foreign)
 
-pub returns-in-Is : goal.returns-in-Is
-returns-in-Is c = let line = c.args.line.now in
+pub returns-in_err-i : goal.returns-in_err-i
+returns-in_err-i c =
+    let line = c.args.line.now in
     let ascii : foreign_line 1 line ≡ 0 = sym c.foreign_line.ensures ∙ c.if-foreign_line-ne0.false in
-    let e : is (says c.in-Is.i) ≡ parse (tokens line) = sym (ap (λ (x : Parsed). told x (token_at line 1)) c.in-Is.is) ∙ c.parse-p.ensures in
-    λ text labels k. meaning line text labels (is (says c.in-Is.i)) ascii e
+    let p = err_from_is_err_and c.from_residual.result c.from_residual.ensures.1 in
+    λ text labels k. rw (p.1, p.2) (meaning line text labels (no (number_of c.in_err-i.field-0.0)) ascii c.in_err-i.ensures)
+
+pub returns-in-Is : goal.returns-in-Is
+returns-in-Is c =
+    let line = c.args.line.now in
+    let ascii : foreign_line 1 line ≡ 0 = sym c.foreign_line.ensures ∙ c.if-foreign_line-ne0.false in
+    λ text labels k. meaning line text labels (is (says c.in-Is.i)) ascii (sym (ap (λ (x : Parsed). told (Ok x) (token_at line 1)) c.in-Is.is) ∙ c.in_ok-i.ensures)
 
 pub returns-in-Refers : goal.returns-in-Refers
-returns-in-Refers c = let line = c.args.line.now in
+returns-in-Refers c =
+    let line = c.args.line.now in
     let ascii : foreign_line 1 line ≡ 0 = sym c.foreign_line.ensures ∙ c.if-foreign_line-ne0.false in
-    let e : is (refers c.in-Refers.r (token_at line 1)) ≡ parse (tokens line) = sym (ap (λ (x : Parsed). told x (token_at line 1)) c.in-Refers.is) ∙ c.parse-p.ensures in
-    λ text labels k. c.referred.ensures ∙ ap (known c.in-Refers.r) k ∙ meaning line text labels (is (refers c.in-Refers.r (token_at line 1))) ascii e
-
-pub returns-in-Refused : goal.returns-in-Refused
-returns-in-Refused c = let line = c.args.line.now in
-    let ascii : foreign_line 1 line ≡ 0 = sym c.foreign_line.ensures ∙ c.if-foreign_line-ne0.false in
-    let e : no (number_of c.in-Refused.r) ≡ parse (tokens line) = sym (ap (λ (x : Parsed). told x (token_at line 1)) c.in-Refused.is) ∙ c.parse-p.ensures in
-    λ text labels k. meaning line text labels (no (number_of c.in-Refused.r)) ascii e
+    λ text labels k. c.referred.ensures ∙ ap (known c.in-Refers.r) k ∙ meaning line text labels (is (refers c.in-Refers.r (token_at line 1))) ascii (sym (ap (λ (x : Parsed). told (Ok x) (token_at line 1)) c.in-Refers.is) ∙ c.in_ok-i.ensures)
