@@ -32,11 +32,7 @@ pub fn fetch_word(m: Map, mem: &[u8], dev: &[u8], a: u16) -> Result<Option<u16>,
         let high = mem[i + 1];
         return Ok(Some(base::word(low, high)));
     }
-    match read_word(m, mem, dev, a) {
-        Ok(Some(w)) => Ok(Some(w)),
-        Ok(None) => Ok(None),
-        Err(e) => Err(e),
-    }
+    read_word(m, mem, dev, a)
 }
 
 // What storing a byte comes to.
