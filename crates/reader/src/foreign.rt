@@ -9,7 +9,7 @@ fn ends(text: &[u8]) -> usize
     text.iter().filter(|b| **b == b'\n').count()
 }
 
-// The line, from 1, of the first byte over 127; 0 where there is none.
+// The line, from 1, of the first byte over 127; 0 where there is none, as the definition `foreign_line` has it.
 pub fn foreign_line(text: &[u8]) -> usize
     ensures { result ≡ foreign_line 1 text.now }
 {

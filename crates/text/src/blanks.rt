@@ -2,6 +2,7 @@
 ghost use Rattle.std.specs.Prelude.{◌≡◌, ◌+◌, ◌≤◌, length, drop};
 ghost use Rattle.text.specs.Parts.{is_blank, not_blank, run};
 
+// Is it a blank? Byte 11 is one by the definition, and is none to the library's `is_ascii_whitespace`.
 #[tactic(auto, unfolding(crate::specs::Parts::is_blank))]
 pub fn is_blank(b: u8) -> bool
     ensures { result ≡ is_blank b }

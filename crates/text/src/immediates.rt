@@ -54,6 +54,7 @@ fn value(s: &[u8]) -> Result<u16, Refusal>
     }
 }
 
+// The number that a token is, at most 65,535.
 #[tactic(auto, unfolding(crate::specs::Immediates::immediate))]
 pub fn parse_immediate(token: &[u8]) -> Result<u16, Refusal>
     ensures { told result ≡ immediate token.now }
