@@ -3,59 +3,58 @@
 // It only moves bytes in and out; `source` makes the text. A read or a write that fails ends it with that error.
 #![tactic(auto)]
 
-ghost use Rattle.std.specs.Prelude.{◌≤◌, IfOk, length};
+ghost use Rattle.std.specs.Prelude.{◌≡◌, IfSome, OnOk, length};
+ghost use Rattle.std.specs.Io.KnownBytes.{Appends};
+ghost use Rattle.base.specs.Numbers.{number_of};
+ghost use Rattle.pen.specs.Pen.{pen, wrote};
+ghost use Rattle.source.specs.Source.{longest_text};
+ghost use Rattle.sourcing.specs.Sourcing.{refusal_line, output_of};
 
-use base::number;
+use inputs::read_full;
 use pen::{decimal, put, put_all};
-use source::{Written, text_of_bytes};
+use source::{Fault, text_of_bytes};
 use std::io;
 use std::io::{Read, Write};
 
-// Reads until buf is full or the input ends, and returns how many bytes it put at the start of buf.
-fn read_full<R: Read>(input: &mut R, buf: &mut [u8]) -> io::Result<usize>
-    ensures { IfOk result (λ n. n ≤ length buf.new) }
+fn refusal_line(out: &mut [u8], f: Fault) -> usize
+    ensures { pen out.new result ≡ wrote (pen out.old 0) (refusal_line (number_of f.refusal) f.index) }
 {
-    let mut done = 0;
-    while done < buf.len() {
-        let n = input.read(&mut buf[done..])?;
-        if n == 0 {
-            break;
-        }
-        done += n;
-    }
-    Ok(done)
+    let p = put_all(out, 0, b"refused ");
+    let p = decimal(out, p, u8::from(f.refusal) as usize);
+    let p = put_all(out, p, b" at ");
+    let p = decimal(out, p, f.index);
+    put(out, p, b'\n')
 }
 
-// The first n bytes, where they are there.
-fn write_first<W: Write>(w: &mut W, bytes: &[u8], n: usize) -> io::Result<()> {
-    if n <= bytes.len() {
-        w.write_all(&bytes[..n])?;
-    }
-    Ok(())
-}
-
-fn write_refusal<W: Write>(w: &mut W, number: usize, index: usize) -> io::Result<()> {
+fn write_refusal<W: Write>(w: &mut W, f: Fault) -> io::Result<()>
+    ensures { OnOk result (Appends (W.contents w.old) (W.contents w.new) (refusal_line (number_of f.refusal) f.index)) }
+{
     let mut line = [0u8; 64];
-    let p = put_all(&mut line, 0, b"refused ");
-    let p = decimal(&mut line, p, number);
-    let p = put_all(&mut line, p, b" at ");
-    let p = decimal(&mut line, p, index);
-    let p = put(&mut line, p, b'\n');
-    write_first(w, &line, p)
+    let n = refusal_line(&mut line, f);
+    w.write_all(&line[..n])
 }
 
-fn write_text<W: Write>(w: &mut W, t: Written, out: &[u8]) -> io::Result<()> {
-    match t {
-        Written::Next(n) => write_first(w, out, n),
-        Written::Refused(r, index) => write_refusal(w, number(r) as usize, index),
+// Writes the text of the words that are read, or the refusal's line. One word more is read than a program may have, so that a longer one
+// is seen to be one. The room is enough for every text.
+fn source_input<R: Read, W: Write>(
+    input: &mut R,
+    output: &mut W,
+    words: &mut [u8],
+    out: &mut [u8],
+) -> io::Result<()>
+    requires words_len { length words.old ≡ 65536 }
+    requires out_len { length out.old ≡ longest_text }
+    ensures { OnOk result (IfSome (R.remaining input.old) (λ bytes. Appends (W.contents output.old) (W.contents output.new) (output_of bytes))) }
+{
+    let n = read_full(input, words)?;
+    match text_of_bytes(&words[..n], out) {
+        Ok(length) => output.write_all(&out[..length]),
+        Err(f) => write_refusal(output, f),
     }
 }
 
-// One word more is read than a program may have, so that a longer one is seen to be one. The room is enough for every text.
 fn main(rt: HostRuntime) -> io::Result<()> {
     let mut words = [0u8; 65536];
     let mut out = [0u8; 851942];
-    let n = read_full(&mut rt.stdin(), &mut words)?;
-    let t = text_of_bytes(&words[..n], &mut out);
-    write_text(&mut rt.stdout(), t, &out)
+    source_input(&mut rt.stdin(), &mut rt.stdout(), &mut words, &mut out)
 }

@@ -1,10 +1,10 @@
--- The long buffer has the length that it was made with, which is not counted out. Assumes nothing.
-use Rattle.std.proofs.Common.{ℕ, sym, ◌∙◌}
+-- The buffers have the lengths that they were made with, which are not counted out. Assumes nothing.
+use Rattle.std.proofs.Common.{ℕ, sym}
 use Rattle.std.proofs.lemmas.List.{length-replicate}
 use Rattle.sourcing.proofs.main.Goals as goal
 
-pub slice_bounds-text_of_bytes-end-2 : goal.slice_bounds-text_of_bytes-end-2
-slice_bounds-text_of_bytes-end-2 c = sym (length-replicate {A = ℕ} 851942 0)
+pub source_input-requires : goal.source_input-requires
+source_input-requires c = record { words_len = length-replicate {A = ℕ} 65536 0; out_len = length-replicate {A = ℕ} 851942 0 }
 
-pub slice_bounds-write_text-end : goal.slice_bounds-write_text-end
-slice_bounds-write_text-end c = sym (c.text_of_bytes-t.auto.out ∙ length-replicate {A = ℕ} 851942 0)
+pub slice_bounds-source_input-end-2 : goal.slice_bounds-source_input-end-2
+slice_bounds-source_input-end-2 c = sym (length-replicate {A = ℕ} 851942 0)
