@@ -1,3 +1,4 @@
+pub mod AimLaws
 pub mod AskLaws
 pub mod Numbers
 pub mod Names

@@ -36,6 +36,7 @@ pub fn aim_of(i: Instruction) -> Option<Aim>
 }
 
 // An even address inside a program of n words.
+#[tactic(auto, using(crate::proofs::AimLaws::half_inside), unfolding(crate::specs::Source::inside))]
 pub fn inside(n: usize, a: u16) -> bool
     ensures { result ≡ inside n a }
 {

@@ -22,6 +22,7 @@ fn is_noop(i: Instruction) -> bool
     matches!(i, Instruction::Noop)
 }
 
+#[tactic(auto, using(pen::proofs::PenLaws::joined), unfolding(crate::specs::Source::plain_line))]
 fn put_plain(out: &mut [u8], at: usize, i: Instruction) -> usize
     ensures { pen out.new result ≡ wrote (pen out.old at) (plain_line i) }
 {
@@ -31,6 +32,7 @@ fn put_plain(out: &mut [u8], at: usize, i: Instruction) -> usize
     put_text(out, at, Edition::Second, i)
 }
 
+#[tactic(auto, using(pen::proofs::PenLaws::joined), unfolding(crate::specs::Source::label_name))]
 fn put_name(out: &mut [u8], at: usize, a: u32) -> usize
     ensures { pen out.new result ≡ wrote (pen out.old at) (label_name a) }
 {
@@ -38,6 +40,7 @@ fn put_name(out: &mut [u8], at: usize, a: u32) -> usize
     hex(out, p, a)
 }
 
+#[tactic(auto, using(pen::proofs::PenLaws::joined))]
 fn put_reference_name(out: &mut [u8], at: usize, r: Reference) -> usize
     ensures { pen out.new result ≡ wrote (pen out.old at) (reference_name r) }
 {
@@ -48,6 +51,7 @@ fn put_reference_name(out: &mut [u8], at: usize, r: Reference) -> usize
     }
 }
 
+#[tactic(auto, using(pen::proofs::PenLaws::joined), unfolding(crate::specs::Source::refer_line))]
 fn put_reference(out: &mut [u8], at: usize, r: Reference, a: u16) -> usize
     ensures { pen out.new result ≡ wrote (pen out.old at) (refer_line r a) }
 {
@@ -68,6 +72,7 @@ fn put_line_by(out: &mut [u8], at: usize, n: usize, i: Instruction, aim: Option<
 
 // ---- with its end
 
+#[tactic(auto, using(pen::proofs::PenLaws::joined))]
 fn put_line(out: &mut [u8], at: usize, n: usize, i: Instruction) -> usize
     ensures { pen out.new result ≡ wrote (pen out.old at) (line_of n i ++ 10 ∷ []) }
 {
