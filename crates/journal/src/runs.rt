@@ -17,12 +17,7 @@ use machine::StepAnswer;
 fn goes_on(a: Result<StepAnswer, Refusal>) -> bool
     ensures { result ≡ goes_on (told a) }
 {
-    match a {
-        Ok(StepAnswer::Continue) => true,
-        Ok(StepAnswer::Debug) => false,
-        Ok(StepAnswer::Stop) => false,
-        Err(_) => false,
-    }
+    matches!(a, Ok(StepAnswer::Continue))
 }
 
 // What a step adds to a run's count.
@@ -32,10 +27,8 @@ fn counts(a: Result<StepAnswer, Refusal>) -> u32
     ensures k_bound { result ≤ 1 }
 {
     match a {
-        Ok(StepAnswer::Continue) => 1,
-        Ok(StepAnswer::Debug) => 1,
-        Ok(StepAnswer::Stop) => 0,
-        Err(_) => 0,
+        Ok(StepAnswer::Continue | StepAnswer::Debug) => 1,
+        Ok(StepAnswer::Stop) | Err(_) => 0,
     }
 }
 

@@ -78,6 +78,7 @@ pub fn step(m: &mut Machine, mem: &mut [u8], dev: &mut [u8]) -> Result<StepAnswe
     if !valid(*m, dev) {
         return Err(Refusal::BadState);
     }
+    // A match and no question mark, so that the edit refusal_moves_another has an arm to change.
     match plan_step(*m, mem, dev) {
         Ok(p) => Ok(commit(m, p, mem, dev)),
         Err(r) => Err(r),

@@ -1,4 +1,5 @@
 // Loads, stores and Cpy: what goes between registers and memory. Memory is read here, and nothing is stored yet.
+// Words and bytes have functions of their own here: they call four of memory's, so that one over closures would be longer than both.
 ghost use Rattle.std.specs.Prelude.{◌≡◌};
 ghost use Rattle.base.specs.Told.{told};
 ghost use Rattle.memory.specs.Bytes.{lent};
