@@ -8,7 +8,7 @@ ghost use Rattle.asm.specs.Views.{work_of, turned, written, Within, EndedWith, w
 use asm::{Counts, Entry, Fault, Rules, Totals, do_line, entry_for, name_in, read_line};
 use base::{InstructionIndex, Refusal};
 use labels::{Label, Open};
-use reader::{after, foreign_line, line, more, new};
+use reader::{LineReader, foreign_line};
 use table::{define, find};
 
 // The entry goes into the table, where there is one.
@@ -70,14 +70,13 @@ pub fn assemble_lines(
         labels: 0,
         waiting: 0,
     };
-    let mut r = new(text);
-    while more(r) {
+    for (at, line) in LineReader::new(text) {
         number += 1;
         let done = one_line(
             rules,
             text,
-            r.at,
-            line(r),
+            at,
+            line,
             n,
             &mut *words,
             &mut *table,
@@ -92,7 +91,6 @@ pub fn assemble_lines(
                 });
             }
         }
-        r = after(r);
     }
     Ok(Totals {
         words: n.words.0 as usize,
