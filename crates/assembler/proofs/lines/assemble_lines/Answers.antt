@@ -7,7 +7,7 @@ use mathlib.Core.Bool.{Bool}
 use mathlib.Core.List.{List}
 use mathlib.Core.Path.{◌≡◌, ◌∙◌, ap, sym, subst}
 use denote.Ref.{Bor}
-use Rattle.std.specs.Prelude.{Result, Ok, Err, IfOk}
+use Rattle.std.specs.Prelude.{Result, IfOk}
 use Rattle.base.specs.Numbers.{number_of}
 use Rattle.base.specs.Told.{Told, is, no}
 use Rattle.base.specs.declared.refusals.Refusal.{Refusal}
