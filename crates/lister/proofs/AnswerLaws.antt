@@ -4,9 +4,11 @@ use mathlib.Core.List.{List}
 use Prim.Native.Nat.{ℕ, ◌≤◌, ◌<◌}
 use native.Mathlib.Omega.{arith}
 use lib.ListN.{length}
+use Rattle.std.specs.Prelude.{Result}
 use Rattle.base.specs.Told.{is, no}
 use Rattle.printer.specs.Print.{placed}
-use Rattle.asm.specs.declared.Assembled.{Assembled}
+use Rattle.asm.specs.declared.Totals.{Totals}
+use Rattle.asm.specs.declared.Fault.{Fault}
 use Rattle.lister.specs.Listing.{outcome, listing, listed, listed_buffer}
 use Rattle.lister.specs.Parts.{Tells, shown_of}
 use Rattle.pen.specs.Pen.{pen, wrote}
@@ -14,7 +16,7 @@ use Rattle.pen.proofs.PenLaws.{whole_length, whole-placed}
 use Rattle.lister.proofs.Laws.{listed-fits, listed-19, buffer-fits, buffer-19, listing-length}
 use Rattle.lister.proofs.ShownLaws.{shown-listing}
 
-module _ (source words : List ℕ) (a : Assembled) (t : Tells a words (outcome source)) (full : length words ≡ 32767) where
+module _ (source words : List ℕ) (a : Result Totals Fault) (t : Tells a words (outcome source)) (full : length words ≡ 32767) where
   short : length (listing source) ≤ 1212432
   short = listing-length source (omega (arith, t.room))
 

@@ -4,14 +4,15 @@ ghost use Rattle.lister.specs.Listing.{line, lines_from, two_numbers, totals, re
 ghost use Rattle.pen.specs.Pen.{pen, wrote};
 
 use crate::decoding::put_word_text;
-use base::{InstructionIndex, byte_address};
+use base::{ByteAddress, InstructionIndex};
 use pen::{decimal, hex, put, put_all};
 
 // The address of an instruction, its word, and what that says.
+#[tactic(auto, using(pen::proofs::PenLaws::joined), unfolding(crate::specs::Listing::line))]
 fn line(out: &mut [u8], at: usize, i: InstructionIndex, w: u16) -> usize
     ensures { pen out.new result ≡ wrote (pen out.old at) (line i.0 w) }
 {
-    let address = byte_address(i);
+    let address = ByteAddress::from(i);
     let p = hex(out, at, address.0);
     let p = put(out, p, b' ');
     let p = hex(out, p, w as u32);
@@ -26,15 +27,14 @@ pub fn lines(out: &mut [u8], at: usize, words: &[u16]) -> usize
     ensures { pen out.new result ≡ wrote (pen out.old at) (lines_from 0 words.now) }
 {
     let mut p = at;
-    let mut i: usize = 0;
-    while i < words.len() {
-        p = line(out, p, InstructionIndex(i as u16), words[i]);
-        i += 1;
+    for (i, w) in words.iter().enumerate() {
+        p = line(out, p, InstructionIndex(i as u16), *w);
     }
     p
 }
 
 // A line that says two numbers.
+#[tactic(auto, using(pen::proofs::PenLaws::joined), unfolding(crate::specs::Listing::two_numbers))]
 fn two_numbers(out: &mut [u8], at: usize, first: &[u8], n: usize, second: &[u8], m: usize) -> usize
     ensures { pen out.new result ≡ wrote (pen out.old at) (two_numbers first.now n second.now m) }
 {
@@ -45,12 +45,14 @@ fn two_numbers(out: &mut [u8], at: usize, first: &[u8], n: usize, second: &[u8],
     put(out, p, b'\n')
 }
 
+#[tactic(auto, unfolding(crate::specs::Listing::totals))]
 pub fn totals(out: &mut [u8], at: usize, words: usize, waiting: usize) -> usize
     ensures { pen out.new result ≡ wrote (pen out.old at) (totals words waiting) }
 {
     two_numbers(out, at, b"words ", words, b" open ", waiting)
 }
 
+#[tactic(auto, unfolding(crate::specs::Listing::refusal))]
 pub fn refusal(out: &mut [u8], at: usize, number: usize, place: usize) -> usize
     ensures { pen out.new result ≡ wrote (pen out.old at) (refusal number place) }
 {

@@ -1,13 +1,9 @@
 -- What is left to write, the lines from word i on, makes the whole: a turn writes the first of them. Assumes nothing.
 use mathlib.Core.Path.{◌≡◌}
-use Prim.Native.Nat.{◌-◌, ◌≤◌}
 use lib.ListN.{length, drop}
 use Rattle.lister.specs.Listing.{lines_from}
 use Rattle.pen.specs.Pen.{pen, wrote}
 use Rattle.lister.proofs.lines.lines.Given as goal
 
 abbrev pub invariant-loop-i : goal.invariant-loop-i
-invariant-loop-i l = (l.i ≤ length l.words) × (length l.out ≡ length l.initial.out) × (wrote (pen l.initial.out l.at) (lines_from 0 l.words) ≡ wrote (pen l.out l.p) (lines_from l.i (drop l.i l.words)))
-
-abbrev pub decreases-loop-i : goal.decreases-loop-i
-decreases-loop-i l = length l.words - l.i
+invariant-loop-i l = wrote (pen l.initial.out l.at) (lines_from 0 l.words) ≡ wrote (pen l.out l.p) (lines_from l.i (drop l.i l.words))
