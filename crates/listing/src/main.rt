@@ -2,46 +2,31 @@
 // makes the listing. A read or a write that fails ends it with that error.
 #![tactic(auto)]
 
-ghost use Rattle.std.specs.Prelude.{◌≤◌, IfOk, length};
+ghost use Rattle.std.specs.Prelude.{◌≡◌, IfSome, OnOk, length};
+ghost use Rattle.std.specs.Io.KnownBytes.{Appends};
+ghost use Rattle.lister.specs.Listing.{listing};
 
+use inputs::read_full;
 use lister::list;
-use printer::Printed;
 use std::io;
 use std::io::{Read, Write};
 
-// Reads until buf is full or the input ends, and returns how many bytes it put at the start of buf.
-fn read_full<R: Read>(input: &mut R, buf: &mut [u8]) -> io::Result<usize>
-    ensures { IfOk result (λ n. n ≤ length buf.new) }
+// Writes the listing of the whole input. One byte more is read than a listing takes, so that a longer text is seen to be one. The room is
+// enough for every listing, so that none is refused.
+fn list_input<R: Read, W: Write>(input: &mut R, output: &mut W, text: &mut [u8], out: &mut [u8]) -> io::Result<()>
+    requires text_len { length text.old ≡ 65537 }
+    requires out_len { length out.old ≡ 1212432 }
+    ensures { OnOk result (IfSome (R.remaining input.old) (λ source. Appends (W.contents output.old) (W.contents output.new) (listing source))) }
 {
-    let mut done = 0;
-    while done < buf.len() {
-        let n = input.read(&mut buf[done..])?;
-        if n == 0 {
-            break;
-        }
-        done += n;
+    let n = read_full(input, text)?;
+    match list(&text[..n], out) {
+        Ok(length) => output.write_all(&out[..length]),
+        Err(_) => Ok(()),
     }
-    Ok(done)
 }
 
-// The bytes of a listing that are in out, or nothing where there was no room.
-fn write_listing<W: Write>(w: &mut W, p: Printed, out: &[u8]) -> io::Result<()> {
-    match p {
-        Printed::Next(n) => {
-            if n <= out.len() {
-                w.write_all(&out[..n])?;
-            }
-        }
-        Printed::Refused(_) => {}
-    }
-    Ok(())
-}
-
-// One byte more is read than a listing takes, so that a longer text is seen to be one. The room is enough for every listing.
 fn main(rt: HostRuntime) -> io::Result<()> {
     let mut text = [0u8; 65537];
     let mut out = [0u8; 1212432];
-    let n = read_full(&mut rt.stdin(), &mut text)?;
-    let p = list(&text[..n], &mut out);
-    write_listing(&mut rt.stdout(), p, &out)
+    list_input(&mut rt.stdin(), &mut rt.stdout(), &mut text, &mut out)
 }
