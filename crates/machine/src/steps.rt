@@ -1,6 +1,6 @@
 // The step: planned, then committed.
 ghost use Rattle.std.specs.Prelude.{◌≡◌};
-ghost use Rattle.base.specs.Told.{is, told};
+ghost use Rattle.base.specs.Told.{told};
 ghost use Rattle.memory.specs.Bytes.{lent};
 ghost use Rattle.instruction.specs.declared.Register.TheVariants.{PC};
 ghost use Rattle.machine.specs.Moves.{Moves, regs};
@@ -60,14 +60,25 @@ pub fn plan_step(m: Machine, mem: &[u8], dev: &[u8]) -> Result<Plan, Refusal>
     plan_of(m.registers, m.mode, m.map, mem, dev)
 }
 
-// Makes what was planned for this machine, which has not been refused.
+// Makes what was planned for this machine. A refusal makes nothing.
 #[tactic(auto, unfolding(crate::specs::Step::committed))]
-pub fn commit(m: &mut Machine, p: Plan, mem: &mut [u8], dev: &mut [u8]) -> StepAnswer
-    ensures { after (is result) m.new (lent mem.new dev.new) ≡ committed m.old (lent mem.old dev.old) (planned m.old.registers (Ok p)) }
+pub fn commit(
+    m: &mut Machine,
+    p: Result<Plan, Refusal>,
+    mem: &mut [u8],
+    dev: &mut [u8],
+) -> Result<StepAnswer, Refusal>
+    ensures { after (told result) m.new (lent mem.new dev.new) ≡ committed m.old (lent mem.old dev.old) (planned m.old.registers p) }
 {
-    memory::make(p.changes, mem, dev);
-    m.registers = p.registers;
-    p.answer
+    // A match and no question mark, so that the edit refusal_moves_another has an arm to change.
+    match p {
+        Ok(plan) => {
+            memory::make(plan.changes, mem, dev);
+            m.registers = plan.registers;
+            Ok(plan.answer)
+        }
+        Err(r) => Err(r),
+    }
 }
 
 // One step: 1, Stop, 2 or 3 at fetch, 4 to 6, then 3, 7, 8, then 9. Anything but an accepted step changes nothing.
@@ -78,9 +89,6 @@ pub fn step(m: &mut Machine, mem: &mut [u8], dev: &mut [u8]) -> Result<StepAnswe
     if !valid(*m, dev) {
         return Err(Refusal::BadState);
     }
-    // A match and no question mark, so that the edit refusal_moves_another has an arm to change.
-    match plan_step(*m, mem, dev) {
-        Ok(p) => Ok(commit(m, p, mem, dev)),
-        Err(r) => Err(r),
-    }
+    let p = plan_step(*m, mem, dev);
+    commit(m, p, mem, dev)
 }
