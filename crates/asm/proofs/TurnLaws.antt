@@ -3,13 +3,13 @@ use Prim.Native.Nat.{◌≤◌, ℕ}
 use lib.ListN.{length, take}
 use lib.Seq.{length-take-le}
 use mathlib.Core.List.{List}
-use mathlib.Core.Path.{◌∙◌, ◌≡◌, ap, sym}
-use Rattle.std.specs.Prelude.{Option, Some, None}
+use mathlib.Core.Path.{◌≡◌, ap}
+use Rattle.std.specs.Prelude.{Some, None}
 use Rattle.asm.proofs.PatchLaws.{patch-take}
 use Rattle.asm.specs.Labels.{Patched, add_open, define, part, patch, patched_of}
 use Rattle.asm.specs.Views.{work_of}
 use Rattle.asm.specs.Words.{add_instruction, add_word}
-use Rattle.asm.specs.Work.{Task, Work, labelled, labels_at, opens, references, says, with_words, work}
+use Rattle.asm.specs.Work.{Task, Work, labelled, labels_at, opens, references, says, work}
 use Rattle.base.specs.Told.{Told, is, no, ◌>>=◌}
 use Rattle.base.specs.Words.{doubled}
 use Rattle.labels.specs.Labels.{find, label}

@@ -8,7 +8,7 @@ use crate::encoding::word_of;
 use base::{InstructionIndex, Refusal};
 use instruction::Instruction;
 
-// The word of an instruction; past the end of the output nothing.
+// The word of an instruction; past the end of the output nothing. By an index, since `get_mut` says nothing of what the slice ends as.
 pub fn put_word(words: &mut [u16], at: InstructionIndex, w: u16)
     ensures { words.new ≡ set words.old at.0 w }
 {

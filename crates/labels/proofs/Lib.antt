@@ -2,4 +2,3 @@ pub mod ListLaws
 pub mod FindLaws
 pub mod Laws
 pub mod NameLaws
-pub mod Scans

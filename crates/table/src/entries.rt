@@ -26,7 +26,7 @@ pub fn find(text: &[u8], table: &[Label], count: usize, name: &[u8]) -> Option<F
     })
 }
 
-// Stores entry i; past the end nothing.
+// Stores entry i; past the end nothing. By an index, since `get_mut` says nothing of what the slice ends as.
 pub fn define(table: &mut [Label], i: usize, l: Label)
     ensures { table.new ≡ set table.old i l }
 {

@@ -1,18 +1,17 @@
 -- The label has its place in the table or a new one, and the references to it are patched; the first refusal counts. Assumes nothing.
 use Prim.Native.Nat.{◌+◌, ◌-◌, ℕ}
-use lib.ListN.{drop, set, length, take}
+use lib.ListN.{drop, length, take}
 use mathlib.Core.Bool.{Bool}
 use mathlib.Core.List.{List}
-use mathlib.Core.Path.{◌∙◌, ◌≡◌, ap, sym}
+use mathlib.Core.Path.{◌∙◌, ◌≡◌, ap}
 use native.Mathlib.Nat.{add-sub_cancel_left}
-use Rattle.std.specs.Prelude.{Result, Ok, Err}
+use Rattle.std.specs.Prelude.{Ok, Err}
 use Rattle.std.proofs.lemmas.Result.{err_from_is_err_and}
 use Rattle.base.specs.Told.{Told}
 use Rattle.base.specs.Words.{doubled}
 use Rattle.labels.specs.Labels.{label}
 use Rattle.labels.specs.declared.Open.{Open}
 use Rattle.asm.specs.Labels.{Patched, part, patch}
-use Rattle.asm.specs.Views.{slot_of}
 use Rattle.asm.specs.Work.{task}
 use Rattle.asm.proofs.LabelLaws.{define-used}
 use Rattle.asm.proofs.TurnLaws.{turn-label, turn-label-full, turn-label-stuck}

@@ -1,7 +1,7 @@
 -- Those kept and those still to come, patched, are what all of them patched come to. Assumes nothing.
 use Prim.Native.Nat.{ℕ, ◌≤◌}
 use lib.ListN.{length}
-use mathlib.Core.Path.{◌∙◌, ◌≡◌, ap, sym}
+use mathlib.Core.Path.{◌∙◌, ◌≡◌, ap}
 use native.Mathlib.Omega.{arith}
 use Rattle.std.proofs.lemmas.Result.{err_from_is_err_and}
 use Rattle.asm.proofs.PatchLaws.{left-to-patch, patch-end, patch-go, patch-kept, patch-stop}
