@@ -13,7 +13,12 @@ use std::io::{Read, Write};
 
 // Writes the listing of the whole input. One byte more is read than a listing takes, so that a longer text is seen to be one. The room is
 // enough for every listing, so that none is refused.
-fn list_input<R: Read, W: Write>(input: &mut R, output: &mut W, text: &mut [u8], out: &mut [u8]) -> io::Result<()>
+fn list_input<R: Read, W: Write>(
+    input: &mut R,
+    output: &mut W,
+    text: &mut [u8],
+    out: &mut [u8],
+) -> io::Result<()>
     requires text_len { length text.old ≡ 65537 }
     requires out_len { length out.old ≡ 1212432 }
     ensures { OnOk result (IfSome (R.remaining input.old) (λ source. Appends (W.contents output.old) (W.contents output.new) (listing source))) }

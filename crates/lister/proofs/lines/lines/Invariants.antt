@@ -1,6 +1,6 @@
 -- What is left to write, the lines from word i on, makes the whole: a turn writes the first of them. Assumes nothing.
 use mathlib.Core.Path.{◌≡◌}
-use lib.ListN.{length, drop}
+use lib.ListN.{drop}
 use Rattle.lister.specs.Listing.{lines_from}
 use Rattle.pen.specs.Pen.{pen, wrote}
 use Rattle.lister.proofs.lines.lines.Given as goal
