@@ -9,7 +9,7 @@ use native.Mathlib.Omega.{arith}
 use borrow.Author.Tests.{eqb-false, ne_eqb}
 use Rattle.base.specs.Told.{Told}
 use Rattle.map.proofs.KeptLaws.{Eight}
-use Rattle.machine.specs.Answers as answers
+use Rattle.machine.specs.declared.StepAnswer.{StepAnswer}
 use Rattle.journal.specs.States.{Whole, whole, valid_whole}
 use Rattle.journal.specs.declared.State.{State}
 use Rattle.journal.specs.Step.{is_accepted, step}
@@ -43,7 +43,7 @@ move_number w Back = (step_back w).number
 step-accepts : (w : Whole) → accepts Step (step_code (step w).answer) ≡ is_accepted (step w).answer
 unfolding accepts
 step-accepts w =
-    every-answer w (λ (a : Told answers.Reply) (t : Bool). accepts Step (step_code a) ≡ t) refl refl refl
+    every-answer w (λ (a : Told StepAnswer) (t : Bool). accepts Step (step_code a) ≡ t) refl refl refl
     (λ n l h. rw (ne_eqb n 0 (λ e. omega arith), ne_eqb n 256 (λ e. omega arith)))
 
 module _ {v : Seen} {w : Whole} (h : Holds v w) where

@@ -2,6 +2,7 @@
 // A machine's state comes and goes in its block, so nothing is kept between two calls.
 #![tactic(auto)]
 
+mod frame;
 mod programs;
 mod steps;
 mod tables;

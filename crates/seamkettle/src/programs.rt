@@ -6,25 +6,26 @@ ghost use Rattle.memory.specs.Bytes.{lent};
 ghost use Rattle.host.specs.Host.{load_number, load_state, load_bytes};
 ghost use Rattle.seamkettle.specs.Calls.{seen, loading, read_number, read_buffer};
 
+use base::Refusal;
 use block::{is_block, pack, unpack};
-use journal::{Changed, State};
-use numbers::{bad_block, narrow_len, narrow_start, of_answer, of_read};
+use journal::State;
+use numbers::{bad_block, narrow, of_answer, of_count};
 use wordbytes::read_words;
 
 // Loads the words of these bytes by way of `program`. It has room for one word more than a load takes, so that too many stay too
 // many.
 fn load_words(
-    s: State,
+    s: &mut State,
     memory: &mut [u8],
     devices: &mut [u8],
     journal: &[u8],
     bytes: &[u8],
     program: &mut [u16],
-) -> Changed
+) -> Result<(), Refusal>
     requires { length program.old ≡ 32769 }
-    ensures answer_value { answer_number result.answer ≡ load_number s (lent memory.old devices.old) journal.now (words_in bytes.now) }
-    ensures state_value { result.state ≡ load_state s (lent memory.old devices.old) journal.now (words_in bytes.now) }
-    ensures devices_after { lent memory.new devices.new ≡ load_bytes s (lent memory.old devices.old) journal.now (words_in bytes.now) }
+    ensures answer_value { answer_number result ≡ load_number s.old (lent memory.old devices.old) journal.now (words_in bytes.now) }
+    ensures state_value { s.new ≡ load_state s.old (lent memory.old devices.old) journal.now (words_in bytes.now) }
+    ensures devices_after { lent memory.new devices.new ≡ load_bytes s.old (lent memory.old devices.old) journal.now (words_in bytes.now) }
 {
     let n = bytes.len() / 2;
     if 32769 < n {
@@ -50,12 +51,10 @@ pub fn kettle_load(
     if words.len() % 2 != 0 {
         return bad_block();
     }
-    let s = unpack(block);
+    let mut s = unpack(block);
     let mut program = [0u16; 32769];
-    let q = load_words(s, memory, devices, journal, words, &mut program);
-    let answer = q.answer;
-    let state = q.state;
-    pack(state, block);
+    let answer = load_words(&mut s, memory, devices, journal, words, &mut program);
+    pack(s, block);
     of_answer(answer)
 }
 
@@ -76,8 +75,7 @@ pub fn kettle_read(
         return bad_block();
     }
     let s = unpack(block);
-    let a = narrow_start(start, size);
-    let n = narrow_len(start, size) as usize;
-    let r = host::read_out(s, memory, devices, journal, a, n, buffer);
-    of_read(r)
+    let (a, n) = narrow(start, size);
+    let r = host::read_out(s, memory, devices, journal, a, n as usize, buffer);
+    of_count(r)
 }

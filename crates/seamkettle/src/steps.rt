@@ -4,6 +4,7 @@ ghost use Rattle.memory.specs.Bytes.{lent};
 ghost use Rattle.journal.specs.Back.{forget_number, forgotten};
 ghost use Rattle.seamkettle.specs.Calls.{seen, stepping, running, stepping_back, number_in, block_after};
 
+use crate::frame::on_block;
 use block::{is_block, pack, unpack};
 use numbers::{bad_block, of_answer, of_run, of_step};
 
@@ -19,11 +20,9 @@ pub fn kettle_step(
     if !is_block(block) {
         return bad_block();
     }
-    let s = unpack(block);
-    let q = journal::step(s, memory, devices, journal);
-    let answer = q.answer;
-    let state = q.state;
-    pack(state, block);
+    let mut s = unpack(block);
+    let answer = journal::step(&mut s, memory, devices, journal);
+    pack(s, block);
     of_step(answer)
 }
 
@@ -40,12 +39,10 @@ pub fn kettle_run(
     if !is_block(block) {
         return bad_block();
     }
-    let s = unpack(block);
-    let q = journal::run(s, memory, devices, journal, steps);
-    let answer = q.answer;
-    let state = q.state;
-    pack(state, block);
-    of_run(answer, q.count)
+    let mut s = unpack(block);
+    let ran = journal::run(&mut s, memory, devices, journal, steps);
+    pack(s, block);
+    of_run(ran.answer, ran.count)
 }
 
 // Takes the newest record back: 31, 1, 10, 11.
@@ -60,11 +57,9 @@ pub fn kettle_step_back(
     if !is_block(block) {
         return bad_block();
     }
-    let s = unpack(block);
-    let q = journal::step_back(s, memory, devices, journal);
-    let answer = q.answer;
-    let state = q.state;
-    pack(state, block);
+    let mut s = unpack(block);
+    let answer = journal::step_back(&mut s, memory, devices, journal);
+    pack(s, block);
     of_answer(answer)
 }
 
@@ -73,13 +68,5 @@ pub fn kettle_forget(block: &mut [u8], devices: &[u8], journal: &[u8]) -> u64
     ensures value { result ≡ number_in block.old (λ s. forget_number s devices.now journal.now) }
     ensures block_after { block.new ≡ block_after block.old (λ s. forgotten s devices.now journal.now) }
 {
-    if !is_block(block) {
-        return bad_block();
-    }
-    let s = unpack(block);
-    let q = journal::forget(s, devices, journal);
-    let answer = q.answer;
-    let state = q.state;
-    pack(state, block);
-    of_answer(answer)
+    on_block(block, |s| of_answer(journal::forget(s, devices, journal)))
 }

@@ -8,9 +8,9 @@ ghost use Rattle.source.specs.Source.{byte_answer, byte_buffer};
 ghost use Rattle.numbers.specs.Answers.{listed_number, sourced_number, fitting};
 ghost use Rattle.seamkettle.specs.Calls.{assembling, assemble_number, assembled_words};
 
-use asm::{Assembled, Rules};
+use asm::{Fault, Rules, Totals};
 use assembler::assemble_words;
-use numbers::{bad_block, of_assembly, of_list, of_text};
+use numbers::{bad_block, of_assembly, of_count, of_text};
 use printer::print_word;
 use source::text_of_bytes;
 use wordbytes::write_words;
@@ -19,10 +19,8 @@ use wordbytes::write_words;
 fn clear_bytes(bytes: &mut [u8], from: usize)
     ensures { bytes.new ≡ filled (length bytes.old) (take from bytes.old) }
 {
-    let mut i = from;
-    while i < bytes.len() {
-        bytes[i] = 0;
-        i += 1;
+    if from < bytes.len() {
+        bytes[from..].fill(0);
     }
 }
 
@@ -30,15 +28,16 @@ fn clear_bytes(bytes: &mut [u8], from: usize)
 fn own_room(bytes: usize) -> usize
     ensures { result ≡ min (bytes / 2) 32767 }
 {
-    let room = bytes / 2;
-    if room < 32767 {
-        return room;
-    }
-    32767
+    (bytes / 2).min(32767)
 }
 
 // Assembles by way of `own`, which has room for as many words as a program may have.
-fn assemble_bytes(rules: Rules, text: &[u8], words: &mut [u8], own: &mut [u16]) -> Assembled
+fn assemble_bytes(
+    rules: Rules,
+    text: &[u8],
+    words: &mut [u8],
+    own: &mut [u16],
+) -> Result<Totals, Fault>
     requires own_len { length own.old ≡ 32767 }
     requires words_value { even words.old ≡ true }
     ensures result_value { reported result ≡ report (assembling rules.strict text.now words.old) }
@@ -74,7 +73,7 @@ pub fn kettle_list(text: &[u8], out: &mut [u8]) -> u64
     ensures value { result ≡ listed_number (listed text.now (length out.old)) }
     ensures out_after { out.new ≡ listed_buffer text.now out.old }
 {
-    of_list(lister::list(text, out))
+    of_count(lister::list(text, out))
 }
 
 // What a word says, as the listing has it: 4 to 6, 19, or how long it is.
@@ -82,7 +81,7 @@ pub fn kettle_print(word: u16, out: &mut [u8]) -> u64
     ensures value { result ≡ listed_number (word_next word (length out.old)) }
     ensures out_after { out.new ≡ word_buffer word out.old }
 {
-    of_list(print_word(word, out))
+    of_count(print_word(word, out))
 }
 
 // Assembly text for words, which assembles plainly to the very same words: 31, 16, 33 with the index of the lowest word that no line

@@ -40,6 +40,6 @@ returns c = let words = c.args.words.now in
     let b = lent c.args.memory.now c.args.devices.now in
     let j = c.args.journal.now in
     let e : is_block block ≡ true = sym c.is_block.ensures ∙ c.if-not-is_block.false in
-    load-good words block b j e (even-yes words c.if-words-ne0.false) c.unpack-s.result c.load_words-q.result.state
-    c.of_answer.result c.pack.new.block (lent c.load_words-q.new.memory c.load_words-q.new.devices) c.unpack-s.ensures
-    (c.of_answer.ensures ∙ c.load_words-q.ensures.answer_value) c.load_words-q.ensures.state_value c.pack.ensures c.load_words-q.ensures.devices_after
+    load-good words block b j e (even-yes words c.if-words-ne0.false) c.unpack-s.result c.load_words-answer.new.s
+    c.of_answer.result c.pack.new.block (lent c.load_words-answer.new.memory c.load_words-answer.new.devices) c.unpack-s.ensures
+    (c.of_answer.ensures ∙ c.load_words-answer.ensures.answer_value) c.load_words-answer.ensures.state_value c.pack.ensures c.load_words-answer.ensures.devices_after

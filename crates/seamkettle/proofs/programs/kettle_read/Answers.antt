@@ -19,10 +19,10 @@ pub unpack-s-requires : goal.unpack-s-requires
 unpack-s-requires c = let e : is_block c.args.block.now ≡ true = sym c.is_block.ensures ∙ c.if-not-is_block.false in
     block-length c.args.block.now e
 
-pub of_read-requires : goal.of_read-requires
-of_read-requires c = let b = lent c.args.memory.now c.args.devices.now in
+pub of_count-requires : goal.of_count-requires
+of_count-requires c = let b = lent c.args.memory.now c.args.devices.now in
     let j = c.args.journal.now in
-    read_fits c.unpack-s.result b j c.args.start c.args.size c.narrow_start-a.result c.narrow_len-n.result c.narrow_start-a.ensures c.narrow_len-n.ensures
+    read_fits c.unpack-s.result b j c.args.start c.args.size c.narrow-a.result.0 c.narrow-a.result.1 c.narrow-a.ensures.start_value c.narrow-a.ensures.len_value
     (length c.args.buffer.now) (counted c.read_out-r.result) c.read_out-r.ensures.result_value
 
 pub returns : goal.returns
@@ -30,9 +30,9 @@ returns c = let b = lent c.args.memory.now c.args.devices.now in
     let j = c.args.journal.now in
     let block = c.args.block.now in
     let e : is_block block ≡ true = sym c.is_block.ensures ∙ c.if-not-is_block.false in record {
-      value = c.of_read.ensures
-          ∙ read-good c.unpack-s.result b j c.args.start c.args.size c.narrow_start-a.result c.narrow_len-n.result c.narrow_start-a.ensures c.narrow_len-n.ensures
+      value = c.of_count.ensures.read
+          ∙ read-good c.unpack-s.result b j c.args.start c.args.size c.narrow-a.result.0 c.narrow-a.result.1 c.narrow-a.ensures.start_value c.narrow-a.ensures.len_value
           block e c.unpack-s.ensures (length c.args.buffer.now) (counted c.read_out-r.result) c.read_out-r.ensures.result_value;
-      buffer_after = buffer-good c.unpack-s.result b j c.args.start c.args.size c.narrow_start-a.result c.narrow_len-n.result c.narrow_start-a.ensures c.narrow_len-n.ensures
+      buffer_after = buffer-good c.unpack-s.result b j c.args.start c.args.size c.narrow-a.result.0 c.narrow-a.result.1 c.narrow-a.ensures.start_value c.narrow-a.ensures.len_value
           block e c.unpack-s.ensures c.args.buffer.now c.read_out-r.new.buffer c.read_out-r.ensures.buffer_after;
     }

@@ -12,7 +12,7 @@ returns-then-n-gt32769 c = let bytes = c.args.bytes.now in
     let b = lent c.args.memory.now c.args.devices.now in
     let j = c.args.journal.now in
     let w = c.write_program.ensures in
-    let m = load_many c.args.s b j bytes program c.if-n-gt32769.true c.requires in
+    let m = load_many c.args.s.now b j bytes program c.if-n-gt32769.true c.requires in
     record { answer_value = w.answer_value ∙ m.0; state_value = w.state_value ∙ m.1; devices_after = w.dev_after ∙ m.2 }
 
 pub slice_bounds-read_words-end-2 : goal.slice_bounds-read_words-end-2
@@ -36,5 +36,5 @@ returns c = let w = c.write_program-2.ensures in
     let program = c.args.program.now in
     let b = lent c.args.memory.now c.args.devices.now in
     let j = c.args.journal.now in
-    let m = load_read c.args.s b j bytes program (omega (arith, c.if-n-gt32769.false, c.requires)) c.read_words.new.words c.read_words.ensures in
+    let m = load_read c.args.s.now b j bytes program (omega (arith, c.if-n-gt32769.false, c.requires)) c.read_words.new.words c.read_words.ensures in
     record { answer_value = w.answer_value ∙ m.0; state_value = w.state_value ∙ m.1; devices_after = w.dev_after ∙ m.2 }

@@ -1,30 +1,20 @@
--- No block is 31; else the call below decides, and its state is packed. Assumes nothing.
-use mathlib.Core.Path.{◌≡◌, sym, ◌∙◌}
-use mathlib.Core.Bool.{true, false}
-use Rattle.journal.specs.declared.State.{State}
-use Rattle.block.specs.Block.{is_block}
-use Rattle.block.proofs.Laws.{block-length}
+-- No block is 31; else the call below decides, and its state is packed.
+use Rattle.std.proofs.Common.{◌≡◌, ◌∙◌, rules}
+use Rattle.block.specs.Block.{unpacked}
 use Rattle.journal.specs.Back.{forget_number, forgotten}
-use Rattle.seamkettle.proofs.CallLaws.{number-none, number-some, block_none, block-some}
+use Rattle.seamkettle.proofs.CallLaws.{by_block, number-none, number-some, block_none, block-some}
 use Rattle.seamkettle.proofs.steps.kettle_forget.Goals as goal
 
-pub returns-then-not-is_block : goal.returns-then-not-is_block
-returns-then-not-is_block c = let e : is_block c.args.block.now ≡ false = sym c.is_block.ensures ∙ c.if-not-is_block.true in
-    let dev = c.args.devices.now in
-    let j = c.args.journal.now in record { value = number-none c.args.block.now e c.bad_block.ensures (λ (s : State). forget_number s dev j); block_after = block_none c.args.block.now e (λ (s : State). forgotten s dev j) }
+pub returns-clause-value : goal.returns-clause-value
+returns-clause-value c =
+    by_block c.args.block.now (λ e. number-none c.args.block.now e (c.on_block.ensures.none e).0 (λ s. forget_number s c.args.devices.now c.args.journal.now)) (λ e.
+    let y = c.on_block.ensures.some e in
+    let f : c.on_block.result ≡ forget_number (unpacked c.args.block.now) c.args.devices.now c.args.journal.now = search rules in
+    number-some c.args.block.now e (λ s. forget_number s c.args.devices.now c.args.journal.now) f)
 
-pub unpack-s-requires : goal.unpack-s-requires
-unpack-s-requires c = block-length c.args.block.now (sym c.is_block.ensures ∙ c.if-not-is_block.false)
-
-pub pack-requires : goal.pack-requires
-pack-requires c = block-length c.args.block.now (sym c.is_block.ensures ∙ c.if-not-is_block.false)
-
-pub returns : goal.returns
-returns c = let e : is_block c.args.block.now ≡ true = sym c.is_block.ensures ∙ c.if-not-is_block.false in
-    let dev = c.args.devices.now in
-    let j = c.args.journal.now in record {
-      value = number-some c.args.block.now e c.unpack-s.ensures (λ (s : State). forget_number s dev j)
-          (c.of_answer.ensures ∙ c.forget-q.ensures.answer_value);
-      block_after = block-some c.args.block.now e c.unpack-s.ensures c.pack.ensures
-          (λ (s : State). forgotten s dev j) c.forget-q.ensures.state_value;
-    }
+pub returns-clause-block_after : goal.returns-clause-block_after
+returns-clause-block_after c =
+    by_block c.args.block.now (λ e. block_none c.args.block.now e (c.on_block.ensures.none e).1 (λ s. forgotten s c.args.devices.now c.args.journal.now)) (λ e.
+    let y = c.on_block.ensures.some e in
+    let f : y.0 ≡ forgotten (unpacked c.args.block.now) c.args.devices.now c.args.journal.now = search rules in
+    block-some c.args.block.now e y.2 (λ s. forgotten s c.args.devices.now c.args.journal.now) f)

@@ -20,4 +20,4 @@ pack-requires c = block-length c.args.block.now (sym c.is_block.ensures ∙ c.if
 pub returns : goal.returns
 returns c = let e : is_block c.args.block.now ≡ true = sym c.is_block.ensures ∙ c.if-not-is_block.false in
     running-some c.args.block.now e c.unpack-s.ensures c.pack.ensures
-    (lent c.args.memory.now c.args.devices.now) c.args.journal.now c.args.steps c.run-q.ensures c.of_run.ensures
+    (lent c.args.memory.now c.args.devices.now) c.args.journal.now c.args.steps c.run-ran.ensures c.of_run.ensures

@@ -1,33 +1,21 @@
--- No block is 31; else the call below decides, of a range that comes to the same, and its state is packed. Assumes nothing.
-use mathlib.Core.Path.{◌≡◌, sym, ◌∙◌}
-use mathlib.Core.Bool.{true, false}
-use Rattle.journal.specs.declared.State.{State}
-use Rattle.block.specs.Block.{is_block}
-use Rattle.block.proofs.Laws.{block-length}
+-- No block is 31; else the call below decides, of a range that comes to the same, and its state is packed.
+use Rattle.std.proofs.Common.{◌≡◌, ◌∙◌, rules}
+use Rattle.block.specs.Block.{unpacked}
 use Rattle.host.specs.Host.{protect_number, protect_state}
-use Rattle.seamkettle.proofs.CallLaws.{number-none, number-some, block_none, block-some}
 use Rattle.seamkettle.proofs.RangeLaws.{protect-narrow}
+use Rattle.seamkettle.proofs.CallLaws.{by_block, number-none, number-some, block_none, block-some}
 use Rattle.seamkettle.proofs.tables.kettle_protect.Goals as goal
 
-pub returns-then-not-is_block : goal.returns-then-not-is_block
-returns-then-not-is_block c = let e : is_block c.args.block.now ≡ false = sym c.is_block.ensures ∙ c.if-not-is_block.true in
-    let dev = c.args.devices.now in
-    let j = c.args.journal.now in record { value = number-none c.args.block.now e c.bad_block.ensures (λ (s : State). protect_number s dev j c.args.start c.args.len); block_after = block_none c.args.block.now e (λ (s : State). protect_state s dev j c.args.start c.args.len) }
+pub returns-clause-value : goal.returns-clause-value
+returns-clause-value c =
+    by_block c.args.block.now (λ e. number-none c.args.block.now e (c.on_block.ensures.none e).0 (λ s. protect_number s c.args.devices.now c.args.journal.now c.args.start c.args.len)) (λ e.
+    let y = c.on_block.ensures.some e in
+    let f : c.on_block.result ≡ protect_number (unpacked c.args.block.now) c.args.devices.now c.args.journal.now c.narrow-a.result.0 c.narrow-a.result.1 = search rules in
+    number-some c.args.block.now e (λ s. protect_number s c.args.devices.now c.args.journal.now c.args.start c.args.len) (f ∙ (protect-narrow c.args.start c.args.len c.narrow-a.ensures.start_value c.narrow-a.ensures.len_value (unpacked c.args.block.now) c.args.devices.now c.args.journal.now).0))
 
-pub unpack-s-requires : goal.unpack-s-requires
-unpack-s-requires c = block-length c.args.block.now (sym c.is_block.ensures ∙ c.if-not-is_block.false)
-
-pub pack-requires : goal.pack-requires
-pack-requires c = block-length c.args.block.now (sym c.is_block.ensures ∙ c.if-not-is_block.false)
-
-pub returns : goal.returns
-returns c = let e : is_block c.args.block.now ≡ true = sym c.is_block.ensures ∙ c.if-not-is_block.false in
-    let dev = c.args.devices.now in
-    let j = c.args.journal.now in
-    let f = protect-narrow c.args.start c.args.len c.narrow_start-a.ensures c.narrow_len-n.ensures
-    c.unpack-s.result dev j in record {
-      value = number-some c.args.block.now e c.unpack-s.ensures (λ (s : State). protect_number s dev j c.args.start c.args.len)
-          (c.of_answer.ensures ∙ c.protect-q.ensures.answer_value ∙ f.0);
-      block_after = block-some c.args.block.now e c.unpack-s.ensures c.pack.ensures
-          (λ (s : State). protect_state s dev j c.args.start c.args.len) (c.protect-q.ensures.state_value ∙ f.1);
-    }
+pub returns-clause-block_after : goal.returns-clause-block_after
+returns-clause-block_after c =
+    by_block c.args.block.now (λ e. block_none c.args.block.now e (c.on_block.ensures.none e).1 (λ s. protect_state s c.args.devices.now c.args.journal.now c.args.start c.args.len)) (λ e.
+    let y = c.on_block.ensures.some e in
+    let f : y.0 ≡ protect_state (unpacked c.args.block.now) c.args.devices.now c.args.journal.now c.narrow-a.result.0 c.narrow-a.result.1 = search rules in
+    block-some c.args.block.now e y.2 (λ s. protect_state s c.args.devices.now c.args.journal.now c.args.start c.args.len) (f ∙ (protect-narrow c.args.start c.args.len c.narrow-a.ensures.start_value c.narrow-a.ensures.len_value (unpacked c.args.block.now) c.args.devices.now c.args.journal.now).1))

@@ -1,30 +1,20 @@
--- No block is 31; else the call below decides, and its state is packed. Assumes nothing.
-use mathlib.Core.Path.{◌≡◌, sym, ◌∙◌}
-use mathlib.Core.Bool.{true, false}
-use Rattle.journal.specs.declared.State.{State}
-use Rattle.block.specs.Block.{is_block}
-use Rattle.block.proofs.Laws.{block-length}
+-- No block is 31; else the call below decides, and its state is packed.
+use Rattle.std.proofs.Common.{◌≡◌, ◌∙◌, rules}
+use Rattle.block.specs.Block.{unpacked}
 use Rattle.host.specs.Host.{set_number, set_state}
-use Rattle.seamkettle.proofs.CallLaws.{number-none, number-some, block_none, block-some}
+use Rattle.seamkettle.proofs.CallLaws.{by_block, number-none, number-some, block_none, block-some}
 use Rattle.seamkettle.proofs.tables.kettle_set_register.Goals as goal
 
-pub returns-then-not-is_block : goal.returns-then-not-is_block
-returns-then-not-is_block c = let e : is_block c.args.block.now ≡ false = sym c.is_block.ensures ∙ c.if-not-is_block.true in
-    let dev = c.args.devices.now in
-    let j = c.args.journal.now in record { value = number-none c.args.block.now e c.bad_block.ensures (λ (s : State). set_number s dev j c.args.number); block_after = block_none c.args.block.now e (λ (s : State). set_state s dev j c.args.number c.args.value) }
+pub returns-clause-value : goal.returns-clause-value
+returns-clause-value c =
+    by_block c.args.block.now (λ e. number-none c.args.block.now e (c.on_block.ensures.none e).0 (λ s. set_number s c.args.devices.now c.args.journal.now c.args.number)) (λ e.
+    let y = c.on_block.ensures.some e in
+    let f : c.on_block.result ≡ set_number (unpacked c.args.block.now) c.args.devices.now c.args.journal.now c.args.number = search rules in
+    number-some c.args.block.now e (λ s. set_number s c.args.devices.now c.args.journal.now c.args.number) f)
 
-pub unpack-s-requires : goal.unpack-s-requires
-unpack-s-requires c = block-length c.args.block.now (sym c.is_block.ensures ∙ c.if-not-is_block.false)
-
-pub pack-requires : goal.pack-requires
-pack-requires c = block-length c.args.block.now (sym c.is_block.ensures ∙ c.if-not-is_block.false)
-
-pub returns : goal.returns
-returns c = let e : is_block c.args.block.now ≡ true = sym c.is_block.ensures ∙ c.if-not-is_block.false in
-    let dev = c.args.devices.now in
-    let j = c.args.journal.now in record {
-      value = number-some c.args.block.now e c.unpack-s.ensures (λ (s : State). set_number s dev j c.args.number)
-          (c.of_answer.ensures ∙ c.set_register-q.ensures.answer_value);
-      block_after = block-some c.args.block.now e c.unpack-s.ensures c.pack.ensures
-          (λ (s : State). set_state s dev j c.args.number c.args.value) c.set_register-q.ensures.state_value;
-    }
+pub returns-clause-block_after : goal.returns-clause-block_after
+returns-clause-block_after c =
+    by_block c.args.block.now (λ e. block_none c.args.block.now e (c.on_block.ensures.none e).1 (λ s. set_state s c.args.devices.now c.args.journal.now c.args.number c.args.value)) (λ e.
+    let y = c.on_block.ensures.some e in
+    let f : y.0 ≡ set_state (unpacked c.args.block.now) c.args.devices.now c.args.journal.now c.args.number c.args.value = search rules in
+    block-some c.args.block.now e y.2 (λ s. set_state s c.args.devices.now c.args.journal.now c.args.number c.args.value) f)
