@@ -1,5 +1,5 @@
 -- No block is 31; else the call below decides, and its state is packed.
-use Rattle.std.proofs.Common.{◌≡◌, ◌∙◌, rules}
+use Rattle.std.proofs.Common.{◌≡◌, rules}
 use Rattle.block.specs.Block.{unpacked}
 use Rattle.journal.specs.Back.{forget_number, forgotten}
 use Rattle.seamkettle.proofs.CallLaws.{by_block, number-none, number-some, block_none, block-some}
