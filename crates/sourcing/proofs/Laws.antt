@@ -1,26 +1,24 @@
 -- A refusal's line is short, and what was read is the input's first bytes; so what stands at the start of the buffer is what is to be
 -- written. Assumes nothing.
-use Prim.Native.Nat.{ℕ, ◌+◌, ◌%◌, ◌≤◌, ◌<◌}
+use Prim.Native.Nat.{ℕ, ◌≤◌, ◌<◌}
 use mathlib.Core.Path.{◌≡◌, refl, sym, ap, subst, ◌∙◌}
-use mathlib.Core.List.{List, [], ◌++◌}
+use mathlib.Core.List.{List, ◌++◌}
 use mathlib.Core.Bool.{Bool, true, false}
 use native.Mathlib.Omega.{arith}
 use borrow.Author.Tests.{ltb-true, ltb-false}
 use lib.Dec.{ltb}
 use lib.ListN.{length, take, length-append}
-use lib.Seq.{take-append-le, length-take-le}
+use lib.Seq.{take-append-le}
 use Rattle.std.proofs.Common.{append-nil, take_all}
 use Rattle.std.specs.Prelude.{Option, Some, None, Result, Ok, Err, IfSome, OnOk}
 use Rattle.std.specs.Io.KnownBytes.{Consumes, IsAtEnd}
-use Rattle.base.specs.Bytes.{bytes}
 use Rattle.printer.proofs.Laws.{placed_first}
 use Rattle.pen.specs.Pen.{pen, wrote}
 use Rattle.pen.proofs.PenLaws.{whole_length, whole-placed}
 use Rattle.pen.proofs.NumberLaws.{decimal-length}
-use Rattle.wordbytes.specs.Words.{words_in}
-use Rattle.source.specs.Source.{Answer, length_of, refusal, source_text, byte_answer, byte_buffer, Small, longest_text}
+use Rattle.source.specs.Source.{length_of, refusal, byte_answer, byte_buffer, Small, longest_text}
 use Rattle.source.proofs.ByteLaws.{byte-length}
-use Rattle.sourcing.specs.Sourcing.{refusal_line, told_of, read_output, output_of}
+use Rattle.sourcing.specs.Sourcing.{refusal_line, read_output, output_of}
 
 line-most : (number index : ℕ) → length (refusal_line number index) ≤ 64
 unfolding refusal_line

@@ -1,9 +1,8 @@
 -- What is told of the bytes that were read is what is told of the input's first ones, and there is room for it. Assumes nothing.
-use mathlib.Core.Path.{sym, ◌∙◌}
+use mathlib.Core.Path.{sym}
 use mathlib.Core.List.{List}
-use Prim.Native.Nat.{ℕ, ◌≤◌}
+use Prim.Native.Nat.{ℕ}
 use native.Mathlib.Omega.{arith}
-use lib.ListN.{length}
 use lib.Seq.{length-take-le}
 use Rattle.std.specs.Io.KnownBytes.{Appends}
 use Rattle.sourcing.proofs.Laws.{first-read, text-first, text-within, refusal-first, written}
