@@ -1,8 +1,9 @@
-// A pen: a lent buffer and the position of the next byte. Each writer moves the pen past its own bytes.
+// Bytes into a buffer. Each writer moves the pen past its own bytes.
 ghost use Rattle.std.specs.Prelude.{◌≡◌, [], ◌∷◌};
 ghost use Rattle.pen.specs.Pen.{pen};
 ghost use Rattle.pen.specs.Written.{Writes, page};
 
+// A lent buffer, and the position of the next byte.
 #[derive(Drop)]
 pub struct Pen<'a> {
     out: &'a mut [u8],

@@ -1,6 +1,5 @@
 // The lines of a source text, each with its byte 10.
 ghost use Rattle.std.specs.Prelude.{◌≡◌, [], ◌∷◌, ◌++◌, map, ◌≤◌, length};
-ghost use Rattle.pen.specs.Pen.{pen, wrote};
 ghost use Rattle.pen.specs.Written.{Writes};
 ghost use Rattle.text.specs.Lines.{ended};
 ghost use Rattle.source.specs.Words.{instruction_of};
@@ -95,14 +94,12 @@ fn put_label(p: &mut Pen, used: &[bool], k: InstructionIndex)
 }
 
 // A line for each word, after a label line where the word is marked.
-pub fn put_lines(out: &mut [u8], words: &[u16], used: &[bool]) -> usize
+pub fn put_lines(p: &mut Pen, words: &[u16], used: &[bool])
     requires { length words.now ≤ 32767 }
-    ensures { pen out.new result ≡ wrote (pen out.old 0) (ended (lines_of (used_in used.now) (length words.now) 0 (map instruction_of words.now))) }
+    ensures { Writes p.old p.new (ended (lines_of (used_in used.now) (length words.now) 0 (map instruction_of words.now))) }
 {
-    let mut p = Pen::new(out);
     for (k, w) in words.iter().enumerate() {
-        put_label(&mut p, used, InstructionIndex(k as u16));
-        put_line(&mut p, words.len(), instruction_of(*w));
+        put_label(p, used, InstructionIndex(k as u16));
+        put_line(p, words.len(), instruction_of(*w));
     }
-    p.at()
 }

@@ -12,3 +12,6 @@ loop-k-preserved c = (
     c.loop-k.invariant.1
     ∙ lines_more (used_in c.args.used.now) (length c.args.words.now) (page c.loop-k.p) c.args.words.now c.loop-k.k c.loop-k-test.true c.put_label.ensures.1 (c.put_line.ensures.1 ∙ rw c.instruction_of.ensures),
 )
+
+pub returns : goal.returns
+returns c = (c.loop-k.invariant.0, sym (c.loop-k.invariant.1 ∙ lines-no-more (used_in c.args.used.now) (length c.args.words.now) (page c.loop-k.p) c.args.words.now c.loop-k.k c.loop-k-test.false))

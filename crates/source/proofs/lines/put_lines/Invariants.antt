@@ -2,7 +2,7 @@
 use mathlib.Core.Path.{◌≡◌}
 use mathlib.Core.List.{map}
 use lib.ListN.{length, drop}
-use Rattle.pen.specs.Pen.{pen, wrote}
+use Rattle.pen.specs.Pen.{wrote}
 use Rattle.pen.specs.Written.{page}
 use Rattle.text.specs.Lines.{ended}
 use Rattle.source.specs.Words.{instruction_of}
