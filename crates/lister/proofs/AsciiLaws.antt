@@ -12,7 +12,8 @@ use Rattle.instruction.specs.Decode.{decode}
 use Rattle.printer.proofs.AsciiLaws.{ascii, ascii_append, text-ascii}
 use Rattle.asm.specs.Assemble.{Outcome, accepted, refused}
 use Rattle.pen.proofs.NumberLaws.{hex-ascii, decimal-ascii}
-use Rattle.lister.specs.Listing.{text_of, line, lines_from, two_numbers, totals, refusal, shown, outcome, listing}
+use Rattle.pen.specs.Numbers.{two_numbers}
+use Rattle.lister.specs.Listing.{text_of, line, lines_from, totals, refusal, shown, outcome, listing}
 
 told-ascii : (d : Told Instruction) → ascii (text_of d) ≡ true
 unfolding ascii

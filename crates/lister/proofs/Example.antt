@@ -14,8 +14,8 @@ use Rattle.asm.specs.Reading.{read}
 use Rattle.asm.specs.Words.{strict_order, strict_word, word_of, add_word, add_instruction}
 use Rattle.asm.specs.Work.{says, references, labelled, turn}
 use Rattle.asm.specs.Assemble.{assemble}
-use Rattle.pen.specs.Numbers.{hex, decimal}
-use Rattle.lister.specs.Listing.{line, lines_from, two_numbers, totals, outcome, listing}
+use Rattle.pen.specs.Numbers.{hex, decimal, two_numbers}
+use Rattle.lister.specs.Listing.{line, lines_from, totals, outcome, listing}
 
 pub example : listing (bytes "; poll\nagain:\nLDB A, B\nEQ A, #0\nCJP again\nMOV PC, C\n")
     ≡ bytes "0000 0088 LDB A, B\n0002 0007 EQ A, #0\n0004 0005 CJP #0\n0006 02D1 MOV PC, C\nwords 4 open 0\n"

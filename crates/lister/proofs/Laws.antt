@@ -15,7 +15,8 @@ use Rattle.printer.specs.Print.{placed}
 use Rattle.printer.proofs.Laws.{text-length}
 use Rattle.asm.specs.Assemble.{Outcome, accepted, refused, words_of}
 use Rattle.pen.proofs.NumberLaws.{hex-length, decimal-length}
-use Rattle.lister.specs.Listing.{text_of, line, lines_from, two_numbers, totals, refusal, shown, outcome, listing, listed, listed_buffer}
+use Rattle.pen.specs.Numbers.{two_numbers}
+use Rattle.lister.specs.Listing.{text_of, line, lines_from, totals, refusal, shown, outcome, listing, listed, listed_buffer}
 
 module _ (source : List ℕ) where
   pub listed-fits : (room : ℕ) → length (listing source) ≤ room → listed source room ≡ is (length (listing source))

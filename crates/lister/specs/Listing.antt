@@ -8,7 +8,7 @@ use Rattle.instruction.specs.declared.Instruction.{Instruction}
 use Rattle.instruction.specs.Decode.{decode}
 use Rattle.printer.specs.Text.{text}
 use Rattle.printer.specs.Print.{placed}
-use Rattle.pen.specs.Numbers.{hex, decimal}
+use Rattle.pen.specs.Numbers.{hex, two_numbers}
 use Rattle.asm.specs.Work.{task}
 use Rattle.asm.specs.Assemble.{Outcome, accepted, refused, assemble}
 
@@ -27,10 +27,6 @@ line i w = hex (doubled i) ++ bytes " " ++ hex w ++ bytes " " ++ text_of (decode
 unfoldable pub lines_from : ℕ → List ℕ → List ℕ
 lines_from i [] = []
 lines_from i (w ∷ ws) = line i w ++ lines_from (i + 1) ws
-
--- a line that says two numbers
-unfoldable pub two_numbers : List ℕ → ℕ → List ℕ → ℕ → List ℕ
-two_numbers first n second m = first ++ decimal n ++ second ++ decimal m ++ bytes "\n"
 
 unfoldable pub totals : ℕ → ℕ → List ℕ
 totals words waiting = two_numbers (bytes "words ") words (bytes " open ") waiting

@@ -1,17 +1,15 @@
 // What a word says, as text.
-ghost use Rattle.std.specs.Prelude.{◌≡◌};
 ghost use Rattle.instruction.specs.Decode.{decode};
-ghost use Rattle.pen.specs.Pen.{pen, wrote};
+ghost use Rattle.pen.specs.Written.{Writes};
 ghost use Rattle.lister.specs.Listing.{text_of};
 
 use instruction::{Edition, decode};
-use pen::put_text;
+use pen::Pen;
 
-pub fn put_word_text(out: &mut [u8], at: usize, w: u16) -> usize
-    ensures { pen out.new result ≡ wrote (pen out.old at) (text_of (decode w)) }
+pub fn put_word_text(p: &mut Pen, w: u16)
+    ensures { Writes p.old p.new (text_of (decode w)) }
 {
-    match decode(w) {
-        Ok(i) => put_text(out, at, Edition::First, i),
-        Err(_) => at,
+    if let Ok(i) = decode(w) {
+        p.put_text(Edition::First, i);
     }
 }

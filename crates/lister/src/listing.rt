@@ -5,11 +5,13 @@ ghost use Rattle.lister.specs.Listing.{outcome, listing, listed, listed_buffer};
 ghost use Rattle.asm.specs.Views.{word_count};
 ghost use Rattle.lister.specs.Parts.{Tells, shown_of};
 ghost use Rattle.pen.specs.Pen.{pen, wrote};
+ghost use Rattle.pen.specs.Written.{Writes};
 
 use crate::lines::{lines, refusal, totals};
 use asm::{Fault, Rules, Totals};
 use assembler::assemble_words;
 use base::Refusal;
+use pen::Pen;
 
 // Assembles strictly, with 1,024 label entries; 19 comes before anything is read.
 fn assembled(text: &[u8], words: &mut [u16]) -> Result<Totals, Fault>
@@ -26,19 +28,31 @@ fn assembled(text: &[u8], words: &mut [u16]) -> Result<Totals, Fault>
     assemble_words(rules, text, words)
 }
 
-// The listing from byte 0 on.
-fn show(a: Result<Totals, Fault>, words: &[u16], out: &mut [u8]) -> usize
+// The listing, from where the pen is.
+#[tactic(auto, using(pen::proofs::PenLaws::joined))]
+fn show(p: &mut Pen, a: Result<Totals, Fault>, words: &[u16])
+    requires a_in_bounds { word_count a ≤ length words.now }
+    requires words_len_bound { length words.now ≤ 32767 }
+    ensures { Writes p.old p.new (shown_of a words.now) }
+{
+    match a {
+        Ok(t) => {
+            lines(p, &words[..t.words]);
+            totals(p, t.words, t.waiting)
+        }
+        Err(f) => refusal(p, u8::from(f.refusal) as usize, f.line),
+    }
+}
+
+// From byte 0 of a buffer on; how long it is.
+fn shown(out: &mut [u8], a: Result<Totals, Fault>, words: &[u16]) -> usize
     requires a_in_bounds { word_count a ≤ length words.now }
     requires words_len_bound { length words.now ≤ 32767 }
     ensures { pen out.new result ≡ wrote (pen out.old 0) (shown_of a words.now) }
 {
-    match a {
-        Ok(t) => {
-            let p = lines(out, 0, &words[..t.words]);
-            totals(out, p, t.words, t.waiting)
-        }
-        Err(f) => refusal(out, 0, u8::from(f.refusal) as usize, f.line),
-    }
+    let mut p = Pen::new(out);
+    show(&mut p, a, words);
+    p.at()
 }
 
 // Answers how long the listing is. 19 where out is shorter, and then nothing is written; all bytes past the listing stay. With
@@ -51,10 +65,10 @@ pub fn list(text: &[u8], out: &mut [u8]) -> Result<usize, Refusal>
     let mut words = [0u16; 32767];
     let a = assembled(text, &mut words);
     let mut scratch = [0u8; 1];
-    let n = show(a, &words, &mut scratch);
+    let n = shown(&mut scratch, a, &words);
     if out.len() < n {
         return Err(Refusal::NoRoom);
     }
-    show(a, &words, out);
+    shown(out, a, &words);
     Ok(n)
 }

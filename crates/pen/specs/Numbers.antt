@@ -1,5 +1,6 @@
--- Numbers as text: four upper-case hex digits, and decimal digits.
-use Rattle.std.specs.Prelude.{ℕ, ◌+◌, ◌/◌, ◌%◌, List, [], ◌∷◌, ltb}
+-- Numbers as text: four upper-case hex digits, decimal digits, and a line that says two numbers.
+use Rattle.std.specs.Prelude.{ℕ, ◌+◌, ◌/◌, ◌%◌, List, [], ◌∷◌, ◌++◌, ltb}
+use Rattle.base.specs.Bytes.{bytes}
 use Rattle.base.specs.Choice.{cond}
 use Rattle.printer.specs.Text.{digits}
 
@@ -14,3 +15,7 @@ hex n = hex_digit (n / 4096 % 16) ∷ hex_digit (n / 256 % 16) ∷ hex_digit (n 
 -- a number of 64 bits has at most twenty digits
 unfoldable pub decimal : ℕ → List ℕ
 decimal n = digits 20 n
+
+-- a line that says two numbers, each after its text
+unfoldable pub two_numbers : List ℕ → ℕ → List ℕ → ℕ → List ℕ
+two_numbers first n second m = first ++ decimal n ++ second ++ decimal m ++ bytes "\n"

@@ -1,25 +1,47 @@
-// Bytes into a buffer from a position on. Each writer answers the position after its own bytes: it is handed on and stands in no
-// struct with the buffer, which the functions above lend to one writer after the other.
+// Bytes into a buffer. Each writer moves the pen past its own bytes.
 ghost use Rattle.std.specs.Prelude.{◌≡◌, [], ◌∷◌};
-ghost use Rattle.pen.specs.Pen.{pen, wrote};
+ghost use Rattle.pen.specs.Pen.{pen};
+ghost use Rattle.pen.specs.Written.{Writes, page};
 
-// A byte past the end of the buffer is counted and not written.
-pub fn put(out: &mut [u8], at: usize, b: u8) -> usize
-    ensures { pen out.new result ≡ wrote (pen out.old at) (b ∷ []) }
-{
-    if at < out.len() {
-        out[at] = b;
-    }
-    at.saturating_add(1)
+// A lent buffer, and the position of the next byte.
+#[derive(Drop)]
+pub struct Pen<'a> {
+    out: &'a mut [u8],
+    at: usize,
 }
 
-#[tactic(auto, using(crate::proofs::PenLaws::none, crate::proofs::PenLaws::joined))]
-pub fn put_all(out: &mut [u8], at: usize, bytes: &[u8]) -> usize
-    ensures { pen out.new result ≡ wrote (pen out.old at) bytes.now }
-{
-    let mut p = at;
-    for b in bytes {
-        p = put(out, p, *b);
+impl<'a> Pen<'a> {
+    // At the buffer's first byte.
+    pub fn new(out: &'a mut [u8]) -> Pen<'a>
+        ensures same_buffer { result.out.ghost_name ≡ out.entry.ghost_name }
+        ensures begun { page result ≡ pen out.old 0 }
+    {
+        Pen { out, at: 0 }
     }
-    p
+
+    // How many bytes were written, those with no room among them.
+    pub fn at(&self) -> usize
+        ensures { result ≡ self.now.at }
+    {
+        self.at
+    }
+
+    // A byte past the end of the buffer is counted and not written.
+    pub fn put(&mut self, b: u8)
+        ensures { Writes self.old self.new (b ∷ []) }
+    {
+        if self.at < self.out.len() {
+            self.out[self.at] = b;
+        }
+        self.at = self.at.saturating_add(1);
+    }
+
+    #[tactic(auto, using(crate::proofs::PenLaws::none, crate::proofs::PenLaws::joined))]
+    pub fn put_all(&mut self, bytes: &[u8])
+        ensures { Writes self.old self.new bytes.now }
+    {
+        for b in bytes {
+            self.put(*b);
+        }
+    }
 }

@@ -1,12 +1,17 @@
 // The text of words into a lent buffer.
-ghost use Rattle.std.specs.Prelude.{◌≡◌, ◌%◌, length};
-ghost use Rattle.source.specs.Source.{answered, answer, source_buffer, fault, byte_answer, byte_buffer, Small};
+ghost use Rattle.std.specs.Prelude.{◌≡◌, ◌≤◌, ◌%◌, map, length};
+ghost use Rattle.pen.specs.Pen.{pen, wrote};
+ghost use Rattle.text.specs.Lines.{ended};
+ghost use Rattle.source.specs.Words.{instruction_of};
+ghost use Rattle.source.specs.Marks.{used_in};
+ghost use Rattle.source.specs.Source.{lines_of, answered, answer, source_buffer, fault, byte_answer, byte_buffer, Small};
 
 use crate::Fault;
 use crate::lines::put_lines;
 use crate::marks::mark_all;
 use crate::words::lowest;
 use base::Refusal;
+use pen::Pen;
 use wordbytes::read_words;
 
 // Each refusal but NoText has no index.
@@ -16,6 +21,16 @@ impl From<Refusal> for Fault {
     fn from(refusal: Refusal) -> Fault {
         Fault { refusal, index: 0 }
     }
+}
+
+// The lines from byte 0 of a buffer on; how long they are.
+fn written(out: &mut [u8], words: &[u16], used: &[bool]) -> usize
+    requires { length words.now ≤ 32767 }
+    ensures { pen out.new result ≡ wrote (pen out.old 0) (ended (lines_of (used_in used.now) (length words.now) 0 (map instruction_of words.now))) }
+{
+    let mut p = Pen::new(out);
+    put_lines(&mut p, words, used);
+    p.at()
 }
 
 // 16, 33 with the index of the lowest word without a text, 19; then nothing is written. Else it answers how long the text is, and all
@@ -36,11 +51,11 @@ pub fn text(words: &[u16], out: &mut [u8]) -> Result<usize, Fault>
     let mut used = [false; 1024];
     mark_all(words, &mut used);
     let mut scratch = [0u8; 1];
-    let n = put_lines(&mut scratch, words, &used);
+    let n = written(&mut scratch, words, &used);
     if out.len() < n {
         return Err(Fault::from(Refusal::NoRoom));
     }
-    put_lines(out, words, &used);
+    written(out, words, &used);
     Ok(n)
 }
 

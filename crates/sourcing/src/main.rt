@@ -11,19 +11,18 @@ ghost use Rattle.source.specs.Source.{longest_text};
 ghost use Rattle.sourcing.specs.Sourcing.{refusal_line, output_of};
 
 use inputs::read_full;
-use pen::{decimal, put, put_all};
+use pen::Pen;
 use source::{Fault, text_of_bytes};
 use std::io;
 use std::io::{Read, Write};
 
+#[tactic(auto, unfolding(crate::specs::Sourcing::refusal_line, pen::specs::Numbers::two_numbers))]
 fn refusal_line(out: &mut [u8], f: Fault) -> usize
     ensures { pen out.new result ≡ wrote (pen out.old 0) (refusal_line (number_of f.refusal) f.index) }
 {
-    let p = put_all(out, 0, b"refused ");
-    let p = decimal(out, p, u8::from(f.refusal) as usize);
-    let p = put_all(out, p, b" at ");
-    let p = decimal(out, p, f.index);
-    put(out, p, b'\n')
+    let mut p = Pen::new(out);
+    p.two_numbers(b"refused ", u8::from(f.refusal) as usize, b" at ", f.index);
+    p.at()
 }
 
 fn write_refusal<W: Write>(w: &mut W, f: Fault) -> io::Result<()>

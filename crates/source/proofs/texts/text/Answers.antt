@@ -18,11 +18,11 @@ returns-in-Some c =
 pub returns-then-out-n : goal.returns-then-out-n
 returns-then-out-n c =
     let all = lowest-none c.args.words.now (sym c.lowest.ensures ∙ c.in_default.is) in
-    let told = no_room c.args.words.now c.args.out.now c.if-words-gt32767.false all c.mark_all.new.used c.mark_all.ensures (0 ∷ []) c.put_lines-n.ensures c.if-out-n.true in
+    let told = no_room c.args.words.now c.args.out.now c.if-words-gt32767.false all c.mark_all.new.used c.mark_all.ensures (0 ∷ []) c.written-n.ensures c.if-out-n.true in
     rw c.from-then-out-n.ensures (record { result_value = told.0; out_after = told.1 })
 
 pub returns : goal.returns
 returns c =
     let all = lowest-none c.args.words.now (sym c.lowest.ensures ∙ c.in_default.is) in
-    let told = room c.args.words.now c.args.out.now c.if-words-gt32767.false all c.mark_all.new.used c.mark_all.ensures (0 ∷ []) c.put_lines-n.ensures c.if-out-n.false c.put_lines.ensures in
+    let told = room c.args.words.now c.args.out.now c.if-words-gt32767.false all c.mark_all.new.used c.mark_all.ensures (0 ∷ []) c.written-n.ensures c.if-out-n.false c.written.ensures in
     record { result_value = told.0; out_after = told.1 }
