@@ -3,7 +3,7 @@ use crate::assembling::Assembly;
 use crate::buffers::{Buffer, Setup};
 use crate::encodings::instruction;
 use crate::fields::Fields;
-use crate::machines::map;
+use crate::machines::tables;
 use crate::texts::Text;
 use crate::words::Words;
 use instruction::Instruction;
@@ -75,7 +75,7 @@ impl<'a> Command<'a> {
             b"poke" => Command::Poke(fields.read()?, fields.size(94_300)?, fields.text()?),
             b"regs" => Command::Regs(fields.words()?),
             b"cursor" => Command::Cursor(fields.read()?, fields.read()?),
-            b"tables" => Command::Tables(map(fields)?),
+            b"tables" => Command::Tables(tables(fields)?),
             b"byte" => Command::Byte(fields.read()?),
             b"word" => Command::Word(fields.read()?),
             b"put" => Command::Put(fields.read()?, fields.read()?),

@@ -16,7 +16,7 @@ use std::io;
 use std::io::Write;
 
 // The tables as a line has them: a count and eight pairs, twice.
-pub fn map(fields: &mut Fields) -> Option<Map> {
+pub fn tables(fields: &mut Fields) -> Option<Map> {
     let regions = fields.read()?;
     let mut region = [Region { start: 0, len: 0 }; 8];
     for entry in &mut region {
@@ -114,7 +114,7 @@ impl Script {
     }
 }
 
-// By the rules of the host.
+// By the rules of the host. Some of these differ in the function that they call alone: a closure around that call would be longer.
 impl Script {
     // A region protected.
     pub fn protect(&mut self, start: u16, len: u16) -> Answer<&'static str> {

@@ -63,7 +63,8 @@ fn is_hex(digits: &[u8]) -> bool {
             .all(|b| matches!(b, b'0'..=b'9' | b'a'..=b'f'))
 }
 
-// A hex digit's value. In ASCII `0` is three sixteens, and `a` is six and one more.
+// The value of what is a hex digit. In ASCII `0` is three sixteens, and `a` is six and one more. `hex` would take upper-case digits as
+// well, and what it or `to_digit` answers would have to be looked at once more.
 fn nibble(digit: u8) -> u8
     ensures { result ≤ 15 }
 {
