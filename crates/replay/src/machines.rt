@@ -17,28 +17,20 @@ use std::io::Write;
 
 // The tables as a line has them: a count and eight pairs, twice.
 pub fn tables(fields: &mut Fields) -> Option<Map> {
-    let regions = fields.read()?;
-    let mut region = [Region { start: 0, len: 0 }; 8];
-    for entry in &mut region {
-        *entry = Region {
-            start: fields.read()?,
-            len: fields.read()?,
-        };
-    }
-    let devices = fields.read()?;
-    let mut device = [Device { start: 0, end: 0 }; 8];
-    for entry in &mut device {
-        *entry = Device {
-            start: fields.read()?,
-            end: fields.read()?,
-        };
-    }
     Some(Map {
-        regions,
-        region,
-        devices,
-        device,
+        regions: fields.read()?,
+        region: pairs(fields)?.map(|(start, len)| Region { start, len }),
+        devices: fields.read()?,
+        device: pairs(fields)?.map(|(start, end)| Device { start, end }),
     })
+}
+
+fn pairs(fields: &mut Fields) -> Option<[(u16, u16); 8]> {
+    let mut pairs = [(0, 0); 8];
+    for pair in &mut pairs {
+        *pair = (fields.read()?, fields.read()?);
+    }
+    Some(pairs)
 }
 
 // Commands of the language itself, which change what is lent and the state as they like.
