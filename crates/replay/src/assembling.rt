@@ -1,8 +1,8 @@
 // Assembly: whole texts, single lines, listings, and text from words.
 use crate::answers::{blank, mark_before, write_filled, write_hex, write_refusal};
 use crate::commands::short_text;
-use crate::fields::{Fields, FromField};
 use crate::instructions::encode;
+use crate::line::{Fields, FromField};
 use crate::texts::Text;
 use crate::words::Words;
 use asm::{Fault, Rules, Totals};

@@ -1,5 +1,5 @@
 // The bytes that the machine is lent: memory, device bytes and the journal.
-use crate::fields::{Fields, FromField};
+use crate::line::{Fields, FromField};
 use std::alloc::{AllocError, Global};
 
 // The most bytes that memory and device may have, and the journal.

@@ -2,7 +2,7 @@
 use crate::assembling::Assembly;
 use crate::buffers::{Buffer, Setup};
 use crate::encodings::instruction;
-use crate::fields::Fields;
+use crate::line::Fields;
 use crate::machines::tables;
 use crate::texts::Text;
 use crate::words::Words;

@@ -1,6 +1,6 @@
 // An instruction from fields: its row in document 01's table, and four numbers in the row's order. An operand is two of them, 1 and a
 // register or 0 and a number, and one that the row does not have is 0. A number may exceed the field's width in the word.
-use crate::fields::Fields;
+use crate::line::Fields;
 use instruction::{
     Instruction, Operand, Register, arith_of, arithmetic_of, compare_of, register_at,
 };

@@ -5,7 +5,7 @@ use crate::answers::{
     Answer, Maybe, Walk, blank, changed, mark_before, stepped, stored, write_filled,
 };
 use crate::buffers::{Buffer, Buffers, Setup};
-use crate::fields::Fields;
+use crate::line::Fields;
 use crate::script::Script;
 use crate::texts::Text;
 use machine::Registers;

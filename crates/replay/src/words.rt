@@ -1,5 +1,5 @@
 // The words of a line: a list of them, or one that counts so many times.
-use crate::fields::Fields;
+use crate::line::Fields;
 use std::alloc::{AllocError, Global};
 
 // The most that a line can have.
