@@ -1,51 +1,50 @@
 // Words and instructions: decoded, printed, encoded from fields. Nothing here looks at the machine.
-use crate::answers::refused;
-use crate::lines::{Command, short};
-use crate::rows;
-use crate::said::{Said, add, hex_word, put, word};
-use instruction::{Decoded, Instruction};
-use printer::Printed;
+use crate::answers::{Answer, blank, write_filled, write_refusal};
+use base::Refusal;
+use instruction::Instruction;
+use std::alloc::Global;
+use std::io;
+use std::io::Write;
 
-// The first n bytes of an instruction's text, behind what is said already.
-fn spelt(t: Said, text: &[u8], n: usize) -> Said {
-    if n <= text.len() {
-        return add(t, &text[0..n]);
-    }
-    t
+// No instruction's text is longer.
+const TEXT: usize = 64;
+
+// The text of an instruction.
+fn spelt(instruction: Instruction, room: &mut [u8; TEXT]) -> Result<&[u8], Refusal> {
+    let n = printer::print(instruction, room, 0)?;
+    Ok(&room[..n.min(TEXT)])
 }
 
-// An instruction's text behind what is said already. None is longer than 64 bytes.
-fn spell(t: Said, i: Instruction) -> Said {
-    let mut text = [0u8; 64];
-    let r = printer::print(i, &mut text, 0);
-    match r {
-        Printed::Next(n) => spelt(t, &text, n),
-        Printed::Refused(r) => refused(r),
-    }
-}
-
-// The word, then the instruction as it was written.
-pub fn encoded(i: Instruction) -> Said {
-    let t = hex_word(word(b""), instruction::encode(i));
-    spell(put(t, b' '), i)
-}
-
-pub fn encode(c: Command) -> Said {
-    encoded(rows::instruction(c))
-}
-
-pub fn decode(c: Command) -> Said {
-    let d = instruction::decode(short(c.a));
-    match d {
-        Decoded::Ok(i) => spell(word(b""), i),
-        Decoded::Refused(r) => refused(r),
+// The word of an instruction, and then the instruction as it was written.
+pub fn encode<W: Write>(instruction: Instruction, out: &mut W) -> io::Result<()> {
+    let mut room = [0; TEXT];
+    match spelt(instruction, &mut room) {
+        Ok(text) => {
+            write!(out, "{:04X} ", instruction::encode(instruction))?;
+            out.write_all(text)
+        }
+        Err(refusal) => write_refusal(refusal, out),
     }
 }
 
-pub fn is_instruction(w: u16) -> bool {
-    let d = instruction::decode(w);
-    match d {
-        Decoded::Ok(_) => true,
-        Decoded::Refused(_) => false,
+// The text of the instruction that a word says.
+pub fn decode<W: Write>(word: u16, out: &mut W) -> io::Result<()> {
+    let mut room = [0; TEXT];
+    match instruction::decode(word) {
+        Ok(instruction) => match spelt(instruction, &mut room) {
+            Ok(text) => out.write_all(text),
+            Err(refusal) => write_refusal(refusal, out),
+        },
+        Err(refusal) => write_refusal(refusal, out),
     }
+}
+
+// The same in a buffer of this length. A word that is no instruction has nothing to show.
+pub fn print<W: Write>(word: u16, room: usize, out: &mut W, alloc: Global) -> io::Result<()> {
+    if let Err(refusal) = instruction::decode(word) {
+        return write_refusal(refusal, out);
+    }
+    let mut buffer = blank(room, alloc)?;
+    let answer = Answer(printer::print_word(word, buffer.as_mut_slice()));
+    write_filled(answer, buffer.as_slice(), out, alloc)
 }

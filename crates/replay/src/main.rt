@@ -6,48 +6,29 @@
 mod adler;
 mod answers;
 mod assembling;
-mod bytes;
+mod buffers;
 mod commands;
-mod dumps;
+mod encodings;
 mod input;
 mod instructions;
-mod label_tables;
-mod lines;
-mod listings;
-mod loads;
+mod line;
 mod machines;
-mod names;
-mod output;
-mod parse;
-mod rows;
-mod said;
-mod setup;
-mod single_lines;
-mod sources;
-mod state;
-mod tables;
+mod script;
 mod texts;
+mod words;
 
+use script::Script;
 use std::io;
+use std::io::{BufReader, BufWriter};
 
-// The buffers at the longest that a script may ask for, and room for the longest line that a command may need. They
-// stand here, once, and are lent down from here: nothing of their size is ever copied. A read or a write that fails ends the
-// program with that error.
+// How much is read or written at a time.
+const CHUNK: usize = 65_536;
+
+// A read or a write that fails ends the program with that error, and so does memory that there is not.
 fn main(rt: HostRuntime) -> io::Result<()> {
-    let mut mem = [0u8; 65792];
-    let mut dev = [0u8; 65792];
-    let mut journal = [0u8; 94300];
-    let mut line = [0u8; 524288];
-    let mut out = [0u8; 65536];
-    let mut chunk = [0u8; 65536];
-    input::run(
-        &mut mem,
-        &mut dev,
-        &mut journal,
-        &mut rt.stdin(),
-        &mut chunk,
-        &mut line,
-        &mut rt.stdout(),
-        &mut out,
-    )
+    let alloc = rt.alloc();
+    let mut script = Script::new(alloc)?;
+    let mut input = BufReader::with_capacity(alloc, CHUNK, rt.stdin())?;
+    let mut out = BufWriter::with_capacity(alloc, CHUNK, rt.stdout())?;
+    input::run(&mut script, &mut input, &mut out, alloc)
 }

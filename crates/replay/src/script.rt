@@ -1,0 +1,71 @@
+// The script so far: a machine with its journal's cursor, and the buffers that it is lent.
+use crate::buffers::Buffers;
+use crate::commands::Command;
+use crate::{assembling, instructions};
+use journal::State;
+use std::alloc::{AllocError, Global};
+use std::io;
+use std::io::Write;
+
+// What the commands so far have made.
+#[derive(Drop)]
+pub struct Script {
+    pub state: State,
+    pub buffers: Buffers,
+    pub alloc: Global,
+}
+
+impl Script {
+    // Before the first command everything is zero and empty.
+    pub fn new(alloc: Global) -> Result<Script, AllocError> {
+        Ok(Script {
+            state: journal::new(false),
+            buffers: Buffers::new(alloc)?,
+            alloc,
+        })
+    }
+
+    // Answers a line.
+    pub fn answer<W: Write>(&mut self, line: &[u8], out: &mut W) -> io::Result<()> {
+        match Command::of(line) {
+            Some(command) => self.perform(command, out)?,
+            None => write!(out, "?")?,
+        }
+        write!(out, "\n")
+    }
+
+    fn perform<W: Write>(&mut self, command: Command, out: &mut W) -> io::Result<()> {
+        let alloc = self.alloc;
+        match command {
+            Command::New(setup) => write!(out, "{}", self.renew(&setup)?),
+            Command::Poke(buffer, at, text) => write!(out, "{}", self.poke(buffer, at, text)),
+            Command::Regs(value) => write!(out, "{}", self.set_registers(value)),
+            Command::Cursor(next, held) => write!(out, "{}", self.set_cursor(next, held)),
+            Command::Tables(map) => write!(out, "{}", self.set_map(map)),
+            Command::Byte(at) => write!(out, "{}", self.byte(at)),
+            Command::Word(at) => write!(out, "{}", self.word(at)),
+            Command::Put(at, byte) => write!(out, "{}", self.put(at, byte)),
+            Command::PutWord(at, word) => write!(out, "{}", self.put_word(at, word)),
+            Command::Protect(start, len) => write!(out, "{}", self.protect(start, len)),
+            Command::Device(start, size) => write!(out, "{}", self.register(start, size)),
+            Command::Load(words) => match words.all(alloc)? {
+                Some(words) => write!(out, "{}", self.load(words.as_slice())),
+                None => write!(out, "?"),
+            },
+            Command::Read(start, size, room) => self.read(start, size, room, out),
+            Command::Set(number, value) => write!(out, "{}", self.set(number, value)),
+            Command::Step => write!(out, "{}", self.step()),
+            Command::Run(count) => write!(out, "{}", self.run(count)),
+            Command::Back => write!(out, "{}", self.back()),
+            Command::Forget => write!(out, "{}", self.forget()),
+            Command::Decode(word) => instructions::decode(word, out),
+            Command::Print(word, room) => instructions::print(word, room, out, alloc),
+            Command::Encode(instruction) => instructions::encode(instruction, out),
+            Command::Assemble(assembly) => assembly.answer(out, alloc),
+            Command::Line(code, names, labels) => assembling::line(code, names, labels, out, alloc),
+            Command::Listing(text) => assembling::listing(text, out, alloc),
+            Command::Text(room, words) => assembling::source(words, room, out, alloc),
+            Command::State => self.show(out),
+        }
+    }
+}
