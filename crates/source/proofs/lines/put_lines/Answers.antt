@@ -8,9 +8,9 @@ use Rattle.source.proofs.lines.put_lines.Goals as goal
 
 pub loop-k-preserved : goal.loop-k-preserved
 loop-k-preserved c = (
-    c.put_line.ensures.0 ∙ c.put_label.ensures.0 ∙ c.loop-k.invariant.0,
-    c.loop-k.invariant.1
-    ∙ lines_more (used_in c.args.used.now) (length c.args.words.now) (page c.loop-k.p) c.args.words.now c.loop-k.k c.loop-k-test.true c.put_label.ensures.1 (c.put_line.ensures.1 ∙ rw c.instruction_of.ensures),
+  c.put_line.ensures.0 ∙ c.put_label.ensures.0 ∙ c.loop-k.invariant.0,
+  c.loop-k.invariant.1
+      ∙ lines_more (used_in c.args.used.now) (length c.args.words.now) (page c.loop-k.p) c.args.words.now c.loop-k.k c.loop-k-test.true c.put_label.ensures.1 (c.put_line.ensures.1 ∙ rw c.instruction_of.ensures),
 )
 
 pub returns : goal.returns

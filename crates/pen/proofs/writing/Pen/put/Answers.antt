@@ -12,10 +12,14 @@ returns c =
     let p = c.args.self.now in
     let q = c.if-self.self in
     elim c.if-self.branch [
-      | then-self w ↦ (ap (λ (s : Pen). s.out.ghost_name) w.self-is,
-          put-once p.out.now p.at c.args.b q.out.now c.saturating_add-self.result (omega arith) (omega arith)
-          (ap (λ (s : Pen). s.out.now) w.self-is) (c.saturating_add-self.ensures ∙ rw w.self-is refl))
-      | else-self w ↦ (ap (λ (s : Pen). s.out.ghost_name) w.self-is,
-          put-once p.out.now p.at c.args.b q.out.now c.saturating_add-self.result (omega arith) (omega arith)
-          (ap (λ (s : Pen). s.out.now) w.self-is ∙ sym (set_out p.out.now p.at c.args.b w.if-self.false)) (c.saturating_add-self.ensures ∙ rw w.self-is refl))
+      | then-self w ↦ (
+        ap (λ (s : Pen). s.out.ghost_name) w.self-is,
+        put-once p.out.now p.at c.args.b q.out.now c.saturating_add-self.result (omega arith) (omega arith)
+            (ap (λ (s : Pen). s.out.now) w.self-is) (c.saturating_add-self.ensures ∙ rw w.self-is refl),
+      )
+      | else-self w ↦ (
+        ap (λ (s : Pen). s.out.ghost_name) w.self-is,
+        put-once p.out.now p.at c.args.b q.out.now c.saturating_add-self.result (omega arith) (omega arith)
+            (ap (λ (s : Pen). s.out.now) w.self-is ∙ sym (set_out p.out.now p.at c.args.b w.if-self.false)) (c.saturating_add-self.ensures ∙ rw w.self-is refl),
+      )
     ]
