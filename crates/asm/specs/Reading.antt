@@ -37,6 +37,11 @@ end_of (Line.Label start size) = start + size
 end_of (Line.Says i) = 0
 end_of (Line.Refers r start size) = start + size
 
+-- the same of what reading a line answers
+abbrev pub end_read : Result Line Refusal → ℕ
+end_read (Ok l) = end_of l
+end_read (Err r) = 0
+
 -- a reference keeps where the name stands that it waits for: it is the second token
 abbrev pub said : ℕ → List ℕ → Told Meaning → Told Item
 said at line (is (Parse.says i)) = is (says i)

@@ -52,6 +52,15 @@ entry_of (Line.Label start size) at f n = Some (entry_at (slot_of f n.labels) (l
 entry_of (Line.Says i) at f n = None
 entry_of (Line.Refers r start size) at f n = None
 
+-- the same of a line that could not be read: no name and no entry
+abbrev pub name_read : List ℕ → ℕ → Result Line Refusal → List ℕ
+name_read text at (Ok l) = name_at text at l
+name_read text at (Err r) = part text 0 0
+
+abbrev pub entry_read : Result Line Refusal → ℕ → Option Found → Counts → Option Entry
+entry_read (Ok l) at f n = entry_of l at f n
+entry_read (Err r) at f n = None
+
 -- a table with the entry
 abbrev pub written : Option Entry → List Label → List Label
 written None labels = labels

@@ -6,9 +6,9 @@ ghost use Rattle.base.specs.Words.{doubled};
 ghost use Rattle.labels.specs.declared.Label.{Label};
 ghost use Rattle.labels.specs.Labels.{label, find};
 ghost use Rattle.asm.specs.Labels.{part};
-ghost use Rattle.asm.specs.Reading.{end_of};
+ghost use Rattle.asm.specs.Reading.{end_read};
 ghost use Rattle.asm.specs.Work.{task, labelled};
-ghost use Rattle.asm.specs.Views.{slot_of, used_of, entry_of, work_of, turned, Within};
+ghost use Rattle.asm.specs.Views.{slot_of, used_of, entry_read, work_of, turned, Within};
 
 use crate::patching::patch;
 use crate::{Counts, Entry, Line, Rules};
@@ -52,18 +52,24 @@ fn label_here(place: usize, size: usize, here: InstructionIndex) -> Label
 }
 
 // What the line at `at` writes into a table, where f was found of its name: nothing, unless it is a label's.
-pub fn entry_for(line: Line, at: usize, f: Option<Found>, n: Counts) -> Option<Entry>
-    requires { (at + end_of line ≤ 18446744073709551615) × (n.words.0 ≤ 32767) }
-    ensures { result ≡ entry_of line at f n }
+pub fn entry_for(
+    line: Result<Line, Refusal>,
+    at: usize,
+    f: Option<Found>,
+    n: Counts,
+) -> Option<Entry>
+    requires { (at + end_read line ≤ 18446744073709551615) × (n.words.0 ≤ 32767) }
+    ensures { result ≡ entry_read line at f n }
 {
     match line {
-        Line::Label(start, size) => Some(Entry {
+        Ok(Line::Label(start, size)) => Some(Entry {
             slot: slot(f, n.labels),
             label: label_here(at + start, size, n.words),
         }),
-        Line::Skip => None,
-        Line::Says(_) => None,
-        Line::Refers(_, _, _) => None,
+        Ok(Line::Skip) => None,
+        Ok(Line::Says(_)) => None,
+        Ok(Line::Refers(_, _, _)) => None,
+        Err(_) => None,
     }
 }
 

@@ -38,7 +38,7 @@ fn one_line(
         ≡ turn (task rules.strict text.now (length words.old) (length table.old)) at (read line.now) (work_of n words.old table.old opens.old) }
     ensures within_2 { IfOk result (λ m. Within m (length words.old) (length table.old)) }
 {
-    let item = read_line(line)?;
+    let item = read_line(line);
     let most = table.len();
     let f = find(text, table, n.labels, name_in(text, at, item));
     write(table, entry_for(item, at, f, n));

@@ -16,7 +16,15 @@ impl<'a> Pen<'a> {
         ensures same_buffer { result.out.ghost_name ≡ out.entry.ghost_name }
         ensures begun { page result ≡ pen out.old 0 }
     {
-        Pen { out, at: 0 }
+        Pen::new_at(out, 0)
+    }
+
+    // At a byte of the buffer, or past its end.
+    pub fn new_at(out: &'a mut [u8], at: usize) -> Pen<'a>
+        ensures same_buffer { result.out.ghost_name ≡ out.entry.ghost_name }
+        ensures begun { page result ≡ pen out.old at }
+    {
+        Pen { out, at }
     }
 
     // How many bytes were written, those with no room among them.

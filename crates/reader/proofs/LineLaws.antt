@@ -5,14 +5,14 @@ use borrow.Author.Tests.{eqb-true, leb-false, le-ltb, lt-ltb}
 use lib.Dec.{eqb, leb, ltb}
 use lib.ListN.{drop, drop_of_length-le, length, length-drop, take}
 use lib.Seq.{length-take-le}
-use mathlib.Core.Bool.{Bool, false, not, true}
+use mathlib.Core.Bool.{Bool, false, not, true, ◌&&◌}
 use mathlib.Core.List.{List, [], ◌∷◌}
 use mathlib.Core.Path.{◌∙◌, ◌≡◌, ap, refl}
 use native.Mathlib.Omega.{arith}
 use Rattle.std.specs.Prelude.{Some, None, position, count_by}
-use Rattle.std.specs.List.{position_or_len}
+use Rattle.std.specs.List.{position_or_len, list_all}
 use Rattle.std.specs.Char as Char
-use Rattle.std.proofs.Common.{nat_lt, cond as std-cond}
+use Rattle.std.proofs.Common.{nat_lt, nat_le, cond as std-cond}
 use Rattle.std.proofs.lemmas.Bool.Decides.{nat_tests}
 use Rattle.std.proofs.lemmas.List.Sums.{sum_by-cons}
 use Rattle.base.proofs.Tests.{ltb-same}
@@ -127,3 +127,9 @@ foreign_at xs n i e = found xs n ∙ go (nat_lt (first xs) (length xs)) e
     go : (t : Bool) → std-cond t (Some (first xs)) None ≡ Some i → std-cond t (n + ends (take (first xs) xs)) 0 ≡ n + ends (take i xs)
     go true e = let q : first xs ≡ i = cc in rw q
     go false e = cc
+
+-- bytes up to 127, one after the other
+pub all_ascii : (s : List ℕ) → list_all (λ x. nat_le x 127) s ≡ is_ascii s
+unfolding is_ascii
+all_ascii [] = refl
+all_ascii (x ∷ xs) = ap (λ (t : Bool). leb x 127 && t) (all_ascii xs)

@@ -26,6 +26,10 @@ unfoldable pub is_ascii : List ℕ → Bool
 is_ascii [] = true
 is_ascii (x ∷ xs) = leb x 127 && is_ascii xs
 
+-- is there a line at the place, all of it ASCII?
+unfoldable pub clean_at : List ℕ → ℕ → Bool
+clean_at s at = ltb at (length s) && is_ascii (line_at s at)
+
 -- the first line that is not ASCII, the first of all being `from`; 0 where there is none
 abbrev pub first_foreign : ℕ → List (List ℕ) → ℕ
 first_foreign from [] = 0
