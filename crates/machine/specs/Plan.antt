@@ -1,10 +1,8 @@
 -- A step that is planned: fetch at PC, decode, act, add 2 to PC. Order: Stop, 2 or 3 at fetch, 4 to 6, then 3, 7, 8, then 9.
-use Rattle.std.specs.Prelude.{ℕ, Option, Some, None, Result, Ok, Err}
+use Rattle.std.specs.Prelude.{ℕ, Option, Some, None}
 use Rattle.base.specs.Choice.{cond}
-use Rattle.base.specs.Numbers.{number_of}
-use Rattle.base.specs.Told.{Told, is, no}
+use Rattle.base.specs.Told.{Told, is, no, told}
 use Rattle.base.specs.Addresses.{raised_pc}
-use Rattle.base.specs.declared.refusals.Refusal.{Refusal}
 use Rattle.instruction.specs.Decode.{decode}
 use Rattle.instruction.specs.declared.Instruction.{Instruction}
 use Rattle.instruction.specs.declared.Register.TheVariants.{PC}
@@ -29,16 +27,14 @@ pub record Planned : Type 0 where
 abbrev pub plans : Told StepAnswer → Registers → Changes → Planned
 plans a s c = record { answer = a; registers = s; changes = c }
 
+abbrev pub planned : Plan → Planned
+planned p = plans (told p.answer) p.registers p.changes
+
 -- ---- over the registers s before the step
 
 -- a refusal changes nothing
 unfoldable pub refusal : Registers → ℕ → Planned
 refusal s n = plans (no n) s Nothing
-
--- what a function that plans answers
-abbrev pub planned : Registers → Result Plan Refusal → Planned
-planned s (Ok p) = plans (is p.answer) p.registers p.changes
-planned s (Err r) = refusal s (number_of r)
 
 -- add 2 to PC; 9 where it can't be raised
 unfoldable pub raised : Registers → StepAnswer → Registers → Changes → Option ℕ → Planned

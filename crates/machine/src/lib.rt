@@ -11,6 +11,7 @@ mod steps;
 mod transfers;
 mod words;
 
+use base::Refusal;
 use instruction::Register;
 use map::Map;
 use memory::Changes;
@@ -44,15 +45,16 @@ pub enum StepAnswer {
     Stop,
 }
 
-// A step that is decided and not yet made: its answer, the registers after it, the bytes to be stored.
+// A step that is decided and not yet made: its answer, the registers after it, the bytes to be stored; for a refusal too, since a plan is
+// made for whatever machine `commit` is lent.
 #[derive(Clone, Copy)]
 pub struct Plan {
-    pub answer: StepAnswer,
+    pub answer: Result<StepAnswer, Refusal>,
     pub registers: Registers,
     pub changes: Changes,
 }
 
-// The same, with what changes of the registers: one gets a value, and then PC its own.
+// What is not refused, with what changes of the registers: one gets a value, and then PC its own.
 #[derive(Clone, Copy)]
 pub struct Move {
     pub answer: StepAnswer,
