@@ -1,16 +1,27 @@
 // Sums, differences, products, quotients, remainders and powers: the true result where a number of sixteen bits has room for it,
-// else the refusal.
+// else the refusal. Whether a sum, a product or a power fits is decided in one function.
 ghost use Rattle.std.specs.Prelude.{◌≡◌};
 ghost use Rattle.base.specs.Told.{told};
-ghost use Rattle.arithmetic.specs.Totals.{sum, difference, product, quotient, remainder, power};
+ghost use Rattle.arithmetic.specs.Totals.{fitted, sum, difference, product, quotient, remainder, power};
 
 use base::Refusal;
 
-#[tactic(auto, using(crate::proofs::Checked::checked), unfolding(crate::specs::Totals::sum))]
+#[tactic(auto, unfolding(crate::specs::Totals::fitted))]
+fn fit(n: u32) -> Result<u16, Refusal>
+    ensures { told result ≡ fitted n }
+{
+    if n <= 65535 {
+        Ok(n as u16)
+    } else {
+        Err(Refusal::ArithOverflow)
+    }
+}
+
+#[tactic(auto, unfolding(crate::specs::Totals::sum))]
 pub fn sum(a: u16, b: u16) -> Result<u16, Refusal>
     ensures { told result ≡ sum a b }
 {
-    a.checked_add(b).ok_or(Refusal::ArithOverflow)
+    fit(u32::from(a) + u32::from(b))
 }
 
 #[tactic(auto, using(crate::proofs::Checked::checked_difference), unfolding(crate::specs::Totals::difference))]
@@ -20,11 +31,11 @@ pub fn difference(a: u16, b: u16) -> Result<u16, Refusal>
     a.checked_sub(b).ok_or(Refusal::ArithOverflow)
 }
 
-#[tactic(auto, using(crate::proofs::Checked::checked), unfolding(crate::specs::Totals::product))]
+#[tactic(auto, unfolding(crate::specs::Totals::product))]
 pub fn product(a: u16, b: u16) -> Result<u16, Refusal>
     ensures { told result ≡ product a b }
 {
-    a.checked_mul(b).ok_or(Refusal::ArithOverflow)
+    fit(u32::from(a) * u32::from(b))
 }
 
 #[tactic(auto, using(crate::proofs::Checked::checked_divided), unfolding(crate::specs::Totals::quotient))]
@@ -41,9 +52,10 @@ pub fn remainder(a: u16, b: u16) -> Result<u16, Refusal>
     a.checked_rem(b).ok_or(Refusal::DivideByZero)
 }
 
-#[tactic(auto, using(crate::proofs::Checked::checked), unfolding(crate::specs::Totals::power))]
+// A power for which 32 bits have no room stands as the last number of them, which does not fit either.
+#[tactic(auto, using(crate::proofs::Checked::past_all), unfolding(crate::specs::Totals::power))]
 pub fn power(a: u16, b: u16) -> Result<u16, Refusal>
     ensures { told result ≡ power a b }
 {
-    a.checked_pow(b as u32).ok_or(Refusal::ArithOverflow)
+    fit(u32::from(a).checked_pow(u32::from(b)).unwrap_or(u32::MAX))
 }
