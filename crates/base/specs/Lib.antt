@@ -5,3 +5,4 @@ pub mod Words
 pub mod Addresses
 pub mod Told
 pub mod Bytes
+pub mod Names

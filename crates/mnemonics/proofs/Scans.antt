@@ -15,6 +15,8 @@ use Rattle.std.proofs.Common.{cond as std-cond}
 use Rattle.std.proofs.lemmas.Bool.Decides.{nat_tests}
 use Rattle.base.specs.Bytes.{same}
 use Rattle.base.specs.Choice.{cond}
+use Rattle.base.specs.Names.{letters}
+use Rattle.base.specs.declared.names.Name.{Name}
 use Rattle.base.proofs.SameLaws.{same-equal, same_self}
 use Rattle.base.proofs.Tests.{and_left, and_right}
 use Rattle.mnemonics.specs.Tables.{Row, row_of}
@@ -53,10 +55,10 @@ same_is false a b f g = go (same a b) refl
 
 -- a row of the code's table, and whether the token spells it
 abbrev pub Entry : Type 0
-Entry = Bor (List ℕ) × Kind
+Entry = Name × Kind
 
 abbrev pub spelled : List ℕ → Entry → Bool
-spelled token m = same (map to_ascii_lowercase m.0.now) (map to_ascii_lowercase token)
+spelled token m = same (map to_ascii_lowercase (letters m.0)) (map to_ascii_lowercase token)
 
 abbrev pub capitals : Row Kind → Bool
 capitals r = every is_capital r.name
@@ -64,7 +66,7 @@ capitals r = every is_capital r.name
 pub found : (token : List ℕ) (ms : List Entry) → every capitals (map row_of ms) ≡ true → option_map (λ (m : Entry). m.1) (find (spelled token) ms) ≡ kind_in (map row_of ms) (map upper token)
 found token [] h = refl
 found token (m ∷ ms) h =
-    go (spelled token m) (same (map upper token) m.0.now) (folds m.0.now token (and_left (capitals (row_of m)) (every capitals (map row_of ms)) h)) (found token ms (and_right (capitals (row_of m)) (every capitals (map row_of ms)) h))
+    go (spelled token m) (same (map upper token) (letters m.0)) (folds (letters m.0) token (and_left (capitals (row_of m)) (every capitals (map row_of ms)) h)) (found token ms (and_right (capitals (row_of m)) (every capitals (map row_of ms)) h))
   where
     go : (t u : Bool) → u ≡ t → option_map (λ (m : Entry). m.1) (find (spelled token) ms) ≡ kind_in (map row_of ms) (map upper token) →
         option_map (λ (m : Entry). m.1) (std-cond t (Some m) (find (spelled token) ms)) ≡ cond u (Some m.1) (kind_in (map row_of ms) (map upper token))

@@ -5,6 +5,7 @@ mod rows;
 mod spelling;
 
 use instruction::{ArithOp, ArithmeticOp, CompareOp};
+pub use rows::Mnemonic;
 pub use spelling::kind_of;
 
 // How the operands of a mnemonic are read: which of the parsers, and what it is told.

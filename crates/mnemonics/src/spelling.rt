@@ -11,6 +11,6 @@ pub fn kind_of(token: &[u8]) -> Option<Kind>
 {
     table()
         .iter()
-        .find(|row| row.0.eq_ignore_ascii_case(token))
+        .find(|row| row.0.letters().eq_ignore_ascii_case(token))
         .map(|row| row.1)
 }

@@ -3,20 +3,21 @@ ghost use Rattle.std.specs.Prelude.{◌≡◌, map};
 ghost use Rattle.mnemonics.specs.Tables.{row_of};
 ghost use Rattle.parser.specs.Operands.{register_names};
 
+use base::Name;
 use instruction::Register;
 
 // A row: the name, and the register.
-pub type RegisterName = (&'static [u8], Register);
+pub type RegisterName = (Name, Register);
 
 static REGISTERS: [RegisterName; 8] = [
-    (b"A", Register::A),
-    (b"B", Register::B),
-    (b"C", Register::C),
-    (b"M", Register::M),
-    (b"SP", Register::SP),
-    (b"PC", Register::PC),
-    (b"BP", Register::BP),
-    (b"FLAGS", Register::FLAGS),
+    (Name(1, *b"A\0\0\0\0"), Register::A),
+    (Name(1, *b"B\0\0\0\0"), Register::B),
+    (Name(1, *b"C\0\0\0\0"), Register::C),
+    (Name(1, *b"M\0\0\0\0"), Register::M),
+    (Name(2, *b"SP\0\0\0"), Register::SP),
+    (Name(2, *b"PC\0\0\0"), Register::PC),
+    (Name(2, *b"BP\0\0\0"), Register::BP),
+    (Name(5, *b"FLAGS"), Register::FLAGS),
 ];
 
 // The table, which is never copied.

@@ -13,7 +13,9 @@ use instruction::Register;
 pub fn register(token: &[u8]) -> Result<Register, Refusal>
     ensures { told result ≡ register token.now }
 {
-    let row = register_names().iter().find(|row| text::same(token, row.0));
+    let row = register_names()
+        .iter()
+        .find(|row| text::same(token, row.0.letters()));
     row.map(|row| row.1).ok_or(Refusal::InvalidRegister)
 }
 

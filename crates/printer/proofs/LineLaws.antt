@@ -3,11 +3,9 @@ use mathlib.Core.Path.{◌≡◌, refl, sym, ap, ◌∙◌}
 use mathlib.Core.List.{List, [], ◌∷◌, ◌++◌, append_assoc}
 use Prim.Native.Nat.{ℕ, zero, suc, ◌+◌, ◌≤◌, min}
 use native.Mathlib.Omega.{arith}
-use lib.ListN.{length, take, length-take}
+use lib.ListN.{length, take}
 use Rattle.std.proofs.Math.Seq.{take-append-add}
-use Rattle.std.specs.Prelude.{Result, Ok, Err, IsOk, OnOk, ⊤}
 use Rattle.std.proofs.lemmas.List.{take_all, take_min}
-use Rattle.base.proofs.Tests.{clash}
 use Rattle.printer.specs.Line.{added}
 
 -- what was left out is left out of the whole
@@ -24,11 +22,9 @@ pub whole : (x : List ℕ) → length x ≤ 32 → added [] x ≡ x
 unfolding added
 whole x h = take_all 32 x h
 
-module _ (line x new : List ℕ) (room n : ℕ) (e : room + length line ≡ 32) (m : n ≡ min room (length x)) where
-  fits : length line + length (take n x) ≤ 32
-  fits = omega (arith, length-take {A = ℕ})
-
-  all : line ++ take n x ≡ added line x
+module _ (line x : List ℕ) (room n : ℕ) (e : room + length line ≡ 32) (m : n ≡ min room (length x)) where
+  -- as many bytes as there is room for
+  pub all : line ++ take n x ≡ added line x
   unfolding added
   all =
       let f : length line + room ≡ 32 = omega arith in
@@ -36,8 +32,3 @@ module _ (line x new : List ℕ) (room n : ℕ) (e : room + length line ≡ 32) 
       ∙ ap (λ (l : List ℕ). line ++ l) (take_min room x)
       ∙ sym (take-append-add line x room)
       ∙ ap (λ (k : ℕ). take k (line ++ x)) f
-
-  -- as many bytes as there is room for were added, since they fit
-  pub added-first : {E : Type 0} (r : Result ⊤ E) → (length line + length (take n x) ≤ 32 → IsOk r) → OnOk r (new ≡ line ++ take n x) → new ≡ added line x
-  added-first (Ok a) h p = p ∙ all
-  added-first (Err q) h p = clash (h fits)

@@ -24,6 +24,9 @@ impl Line {
         ensures { self.new.text.items ≡ added self.old.text.items s.now }
     {
         let n = self.text.remaining_capacity().min(s.len());
-        let _ = self.text.try_extend_from_slice(&s[..n]);
+        // Byte by byte: what copies them at once goes by memmove, which the archive would need of whoever links it.
+        for b in &s[..n] {
+            self.text.push(*b);
+        }
     }
 }

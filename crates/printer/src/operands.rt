@@ -14,7 +14,7 @@ impl Line {
         ensures { self.new.text.items ≡ added self.old.text.items (operand_of o) }
     {
         match o {
-            Operand::Reg(r) => self.add(register_name(r)),
+            Operand::Reg(r) => self.add(register_name(r).letters()),
             Operand::Imm(v) => self.immediate(v),
         }
     }
@@ -34,7 +34,7 @@ impl Line {
         ensures { self.new.text.items ≡ added self.old.text.items (pair r o) }
     {
         self.add(b" ");
-        self.add(register_name(r));
+        self.add(register_name(r).letters());
         self.add(b", ");
         self.operand(o);
     }
@@ -46,7 +46,7 @@ impl Line {
     {
         self.pair(d, Operand::Reg(a));
         self.add(b", ");
-        self.add(register_name(b));
+        self.add(register_name(b).letters());
     }
 
     // Two numbers in brackets.
@@ -67,7 +67,7 @@ impl Line {
         ensures { self.new.text.items ≡ added self.old.text.items (shifted r first second) }
     {
         self.add(b" ");
-        self.add(register_name(r));
+        self.add(register_name(r).letters());
         self.add(b", ");
         self.bracketed(first, second);
     }
@@ -89,11 +89,11 @@ impl Line {
         ensures { self.new.text.items ≡ added self.old.text.items (address_of a shift) }
     {
         if shift == 0 {
-            self.add(register_name(a));
+            self.add(register_name(a).letters());
             return;
         }
         self.add(b"[");
-        self.add(register_name(a));
+        self.add(register_name(a).letters());
         self.add(b" ");
         self.immediate(shift as u16);
         self.add(b"]");
@@ -105,7 +105,7 @@ impl Line {
         ensures { self.new.text.items ≡ added self.old.text.items (addressed r a shift) }
     {
         self.add(b" ");
-        self.add(register_name(r));
+        self.add(register_name(r).letters());
         self.add(b", ");
         self.address(a, shift);
     }

@@ -31,23 +31,23 @@ impl Line {
                 self.pair(d, o);
             }
             Instruction::MovShift(r, amount, left, imm) => {
-                self.add(shift_name(left));
+                self.add(shift_name(left).letters());
                 self.turned(e, r, amount, imm);
             }
             Instruction::Arith(d, o, op) => {
-                self.add(arith_name(op));
+                self.add(arith_name(op).letters());
                 self.pair(d, o);
             }
             Instruction::ArithRegReg(d, a, b, op) => {
-                self.add(arithmetic_name(op));
+                self.add(arithmetic_name(op).letters());
                 self.three(d, a, b);
             }
             Instruction::LdrStr(r, a, store, shift) => {
-                self.add(word_name(store));
+                self.add(word_name(store).letters());
                 self.addressed(r, a, shift);
             }
             Instruction::LdbStb(r, a, store, shift) => {
-                self.add(byte_name(store));
+                self.add(byte_name(store).letters());
                 self.addressed(r, a, shift);
             }
             Instruction::Cpy(a, b) => {
@@ -63,7 +63,7 @@ impl Line {
                 self.one(o);
             }
             Instruction::Cmp(r, o, op) => {
-                self.add(compare_name(op));
+                self.add(compare_name(op).letters());
                 self.pair(r, o);
             }
             Instruction::CallRet(ret, a) => self.call(ret, a),
