@@ -1,5 +1,5 @@
 -- Runs, trimming and sameness, at an index of a list.
-use Prim.Native.Nat.{◌+◌, ◌-◌, ◌<◌, ◌≤◌, suc, ℕ}
+use Prim.Native.Nat.{◌+◌, ◌-◌, ◌*◌, ◌<◌, ◌≤◌, suc, ℕ}
 use lib.ListN.{drop, get_or, length, length-drop, take}
 use lib.Seq.{take_all, take-suc}
 use mathlib.Core.Bool.{Bool, false, not, true}
@@ -11,8 +11,10 @@ use Rattle.base.proofs.SameLaws.{same-equal, same_self}
 use Rattle.base.specs.Bytes.{same}
 use Rattle.base.specs.Choice.{cond}
 use Rattle.std.specs.Prelude.{Option, Some, None, unwrap_or, position}
-use Rattle.std.specs.List.{position_or_len}
-use Rattle.std.proofs.Common.{cond as std-cond, nat_lt}
+use Rattle.std.specs.List.{AllWithin, HoldsAt, position_or_len, range_with_len}
+use Rattle.std.proofs.lemmas.List.{ext_get_or}
+use Rattle.std.proofs.lemmas.List.FromFn.{get_or-range_with_len, length-range_with_len}
+use Rattle.std.proofs.Common.{MatchBool, cond as std-cond, nat_lt, subst}
 use borrow.Author.Tests.{ltb-false}
 use Rattle.text.specs.Parts.{drop_end, keep_if, run}
 
@@ -24,6 +26,23 @@ same_is false a b f g = go (same a b) refl
     go : (u : Bool) → same a b ≡ u → false ≡ u
     go true e = let z : false ≡ true = g (same-equal a b e) in cc
     go false e = refl
+
+-- the bytes at `k` are the same, and so are those as far from the end
+abbrev pub Mirrored : (a b : List ℕ) (k : ℕ) → Type 0
+Mirrored a b k = (get_or a (length a - 1 - k) 0 ≡ get_or b (length a - 1 - k) 0) × (get_or a k 0 ≡ get_or b k 0)
+
+-- two of one length are the same where each number below the half is `Mirrored`, and differ where some number is not
+pub same_from_ends : (t : Bool) (a b : List ℕ) (m : ℕ) → length a ≡ length b → length a ≤ m * 2
+    → MatchBool t (AllWithin (Mirrored a b) (range_with_len 0 m) 0 (length (range_with_len 0 m))) ((k : ℕ) × (k < length (range_with_len 0 m)) × HoldsAt (λ i. Mirrored a b i → ⊥) (range_with_len 0 m) k)
+    → t ≡ same a b
+same_from_ends true a b m e l h = same_is true a b (λ _. ext_get_or 0 a b e at) (λ _. refl)
+  where
+    near : (k : ℕ) → k < m → Mirrored a b k
+    near k i = subst (Mirrored a b) (omega (arith, get_or-range_with_len 0 m k 0 i)) (h k 0 (omega arith) (omega (arith, length-range_with_len 0 m)))
+
+    at : (k : ℕ) → k < length a → get_or a k 0 ≡ get_or b k 0
+    at k i = grind (arith, near k, near (length a - 1 - k))
+same_from_ends false a b m e l h = same_is false a b (λ z. cc) (λ z. absurd (h.2 0 (subst (λ (x : List ℕ). Mirrored a x (get_or (range_with_len 0 m) h.0 0)) z (refl, refl))))
 
 -- a run is no longer than the list
 pub run-le : (p : ℕ → Bool) (xs : List ℕ) → run p xs ≤ length xs

@@ -5,12 +5,13 @@ ghost use Rattle.text.specs.Parts.{equals, is_blank, drop_end, drop_front};
 
 use crate::blanks::is_blank;
 
-// Are the two the same bytes? Names of one length often begin alike and differ in a number at the end: so the last byte is compared first.
-#[tactic(auto, using(crate::proofs::PartLaws::same_is))]
+// Are the two the same bytes? Names of one length often begin alike and differ in a number at the end: so the end is compared first,
+// and the front beside it, for names that end alike.
 pub fn same(a: &[u8], b: &[u8]) -> bool
     ensures { result ≡ same a.now b.now }
 {
-    a.last() == b.last() && a == b
+    let n = a.len();
+    n == b.len() && (0..n.div_ceil(2)).all(|i| a[n - 1 - i] == b[n - 1 - i] && a[i] == b[i])
 }
 
 // Without all bytes `b` at the end.
