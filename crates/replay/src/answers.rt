@@ -2,7 +2,6 @@
 use base::Refusal;
 use journal::Ran;
 use machine::StepAnswer;
-use std::alloc::{AllocError, Global};
 use std::fmt::Display;
 use std::io::Write;
 use std::{fmt, io};
@@ -72,17 +71,23 @@ pub fn mark_before(i: usize, mark: &'static str) -> &'static str {
     if i == 0 { "" } else { mark }
 }
 
+// How many bytes are spelt out at a time, in a buffer that is cheap to clear.
+const PIECE: usize = 256;
+
 // Bytes in pairs of lower-case hex digits; `-` where there are none.
-pub fn write_hex<W: Write>(bytes: &[u8], out: &mut W, alloc: Global) -> io::Result<()> {
+pub fn write_hex<W: Write>(bytes: &[u8], out: &mut W) -> io::Result<()> {
     if bytes.is_empty() {
         return out.write_all(b"-");
     }
-    out.write_all(hex::encode(alloc, bytes)?.as_bytes())
-}
-
-// A buffer that nothing was written in yet.
-pub fn blank(room: usize, alloc: Global) -> Result<Vec<u8>, AllocError> {
-    vec![in alloc; 0xEE; room]
+    let mut digits = [0; 2 * PIECE];
+    for piece in bytes.chunks(PIECE) {
+        let digits = &mut digits[..2 * piece.len()];
+        let Ok(()) = hex::encode_to_slice(piece, digits) else {
+            unreachable!()
+        };
+        out.write_all(digits)?;
+    }
+    Ok(())
 }
 
 // An answer, and the whole buffer behind it.
@@ -90,8 +95,7 @@ pub fn write_filled<T: Display + Drop, W: Write>(
     answer: T,
     buffer: &[u8],
     out: &mut W,
-    alloc: Global,
 ) -> io::Result<()> {
     write!(out, "{answer} ")?;
-    write_hex(buffer, out, alloc)
+    write_hex(buffer, out)
 }

@@ -1,27 +1,21 @@
 // Assembly: whole texts, single lines, listings, and text from words.
-use crate::answers::{blank, mark_before, write_filled, write_hex, write_refusal};
+use crate::answers::{mark_before, write_filled, write_hex, write_refusal};
 use crate::commands::short_text;
 use crate::instructions::encode;
 use crate::line::{Fields, FromField};
+use crate::rooms::{BYTES, LABELS, Rooms};
 use crate::texts::Text;
-use crate::words::Words;
+use crate::words::{WORDS, Words};
 use asm::{Fault, Rules, Totals};
 use base::Refusal;
 use labels::Label;
 use single::parse_assembly_line;
-use std::alloc::{AllocError, Global};
 use std::fmt::Display;
 use std::io::Write;
 use std::{fmt, io};
 
-// The most words and labels that there may be room for, the most copies, and the most bytes that they may have with the text behind.
-const WORDS: u32 = 32_800;
-
-const LABELS: u32 = 1_100;
-
-const COPIES: u32 = 32_800;
-
-const COPIED: usize = 131_200;
+// The most copies of a text.
+const COPIES: usize = 32_800;
 
 // A text to be assembled: so many copies of one, and another behind them.
 #[derive(Clone, Copy)]
@@ -69,35 +63,40 @@ impl<'a> Assembly<'a> {
             rest: fields.text()?,
         };
         let copied = assembly.copies.checked_mul(assembly.text.len())?;
-        if copied.checked_add(assembly.rest.len())? <= COPIED {
+        if copied.checked_add(assembly.rest.len())? <= BYTES {
             Some(assembly)
         } else {
             None
         }
     }
 
-    fn whole(&self, alloc: Global) -> Result<Vec<u8>, AllocError> {
-        let text = self.text.bytes(alloc)?;
-        let rest = self.rest.bytes(alloc)?;
-        let mut whole = Vec::new(alloc);
-        for _ in 0..self.copies {
-            whole.extend_from_slice(text.as_slice())?;
+    // The whole text, spelt out in this room. Each byte of a further copy is that of the copy before.
+    fn spell<'r>(&self, room: &'r mut [u8]) -> &'r [u8] {
+        let len = self.text.len();
+        let copied = self.copies.saturating_mul(len).min(room.len());
+        let (copies, rest) = room.split_at_mut(copied);
+        self.text.write(copies);
+        for i in len..copied {
+            copies[i] = copies[i - len];
         }
-        whole.extend_from_slice(rest.as_slice())?;
-        Ok(whole)
+        self.rest.write(rest);
+        let whole = copied.saturating_add(self.rest.len()).min(room.len());
+        &room[..whole]
     }
 
     // Assembles it, and writes the answer and then all that was lent.
-    pub fn answer<W: Write>(&self, out: &mut W, alloc: Global) -> io::Result<()> {
-        let text = self.whole(alloc)?;
-        let mut words = vec![in alloc; 0xEEEE; self.words]?;
-        let mut labels = vec![in alloc; UNSET; self.labels]?;
-        let answer = assembler::assemble(
-            self.rules,
-            text.as_slice(),
-            words.as_mut_slice(),
-            labels.as_mut_slice(),
-        );
+    pub fn answer<W: Write>(&self, rooms: &mut Rooms, out: &mut W) -> io::Result<()> {
+        let Rooms {
+            bytes,
+            words,
+            labels,
+        } = rooms;
+        let text = self.spell(bytes.first(BYTES));
+        let words = words.first(self.words);
+        let labels = labels.first(self.labels);
+        words.fill(0xEEEE);
+        labels.fill(UNSET);
+        let answer = assembler::assemble(self.rules, text, words, labels);
         write!(out, "{} | ", Assembled(answer))?;
         for (i, word) in words.iter().enumerate() {
             let mark = mark_before(i, " ");
@@ -117,7 +116,7 @@ impl<'a> Assembly<'a> {
 }
 
 // What the label table has before. It is not zero, so that it shows where it is cleared.
-const UNSET: Label = Label {
+pub const UNSET: Label = Label {
     place: 7,
     length: 7,
     address: 7,
@@ -141,16 +140,25 @@ pub fn line<W: Write>(
     code: Text,
     names: Text,
     labels: Fields,
+    rooms: &mut Rooms,
     out: &mut W,
-    alloc: Global,
 ) -> io::Result<()> {
-    let Some(labels) = labels.list(LABELS as usize, alloc)? else {
+    let Rooms {
+        bytes,
+        labels: room,
+        ..
+    } = rooms;
+    let room = room.first(LABELS);
+    let Some(count) = labels.list(room) else {
         return write!(out, "?");
     };
-    let code = code.bytes(alloc)?;
-    let names = names.bytes(alloc)?;
-    let answer = parse_assembly_line(code.as_slice(), names.as_slice(), labels.as_slice());
-    match answer {
+    // Two texts of the longest fill the room.
+    let bytes = bytes.first(BYTES);
+    let half = bytes.len() / 2;
+    let (code_room, names_room) = bytes.split_at_mut(half);
+    let code = code.spell(code_room);
+    let names = names.spell(names_room);
+    match parse_assembly_line(code, names, &room[..count]) {
         Ok(instruction) => encode(instruction, out),
         Err(refusal) => write_refusal(refusal, out),
     }
@@ -160,24 +168,36 @@ pub fn line<W: Write>(
 // the text has 65,536 at most.
 const LISTING: usize = 262_144;
 
-// The listing of a text.
-pub fn listing<W: Write>(text: Text, out: &mut W, alloc: Global) -> io::Result<()> {
-    let text = text.bytes(alloc)?;
-    let mut listing = vec![in alloc; 0; LISTING]?;
-    match lister::list(text.as_slice(), listing.as_mut_slice()) {
-        Ok(n) => write_hex(&listing.as_slice()[..n.min(LISTING)], out, alloc),
+// The listing of a text. Room for it stands here, where no other command pays for it: none needs as much.
+#[inline(never)]
+pub fn listing<W: Write>(text: Text, rooms: &mut Rooms, out: &mut W) -> io::Result<()> {
+    let text = text.spell(rooms.bytes.first(BYTES));
+    let mut listing = [0; LISTING];
+    match lister::list(text, &mut listing) {
+        Ok(n) => write_hex(&listing[..n.min(LISTING)], out),
         Err(refusal) => write_refusal(refusal, out),
     }
 }
 
 // The text that says these words.
-pub fn source<W: Write>(words: Words, room: usize, out: &mut W, alloc: Global) -> io::Result<()> {
-    let Some(words) = words.all(alloc)? else {
+pub fn source<W: Write>(
+    words: Words,
+    len: usize,
+    rooms: &mut Rooms,
+    out: &mut W,
+) -> io::Result<()> {
+    let Rooms {
+        bytes,
+        words: room,
+        ..
+    } = rooms;
+    let room = room.first(WORDS);
+    let Some(count) = words.write(room) else {
         return write!(out, "?");
     };
-    let mut buffer = blank(room, alloc)?;
-    let answer = Sourced(source::text(words.as_slice(), buffer.as_mut_slice()));
-    write_filled(answer, buffer.as_slice(), out, alloc)
+    let buffer = bytes.blank(len);
+    let answer = Sourced(source::text(&room[..count], buffer));
+    write_filled(answer, buffer, out)
 }
 
 // The length of a text from words, or the refusal; with 33 stands the index of the word that no line says.

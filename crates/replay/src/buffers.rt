@@ -1,11 +1,11 @@
 // The bytes that the machine is lent: memory, device bytes and the journal.
+use crate::lent::Lent;
 use crate::line::{Fields, FromField};
-use std::alloc::{AllocError, Global};
 
 // The most bytes that memory and device may have, and the journal.
-const MEMORY: u32 = 65_792;
+pub const MEMORY: usize = 65_792;
 
-const JOURNAL: u32 = 94_300;
+pub const JOURNAL: usize = 94_300;
 
 // What `new` asks for: the buffers' lengths, debug mode, and what to fill the buffers by.
 #[derive(Clone, Copy)]
@@ -49,49 +49,52 @@ impl FromField for Buffer {
     }
 }
 
-// All three, each as long as the last `new` asked for.
+// All three, each as long as the last `new` asked for. The rest of a room is never lent to a command.
 #[derive(Drop)]
-pub struct Buffers {
-    pub memory: Vec<u8>,
-    pub device: Vec<u8>,
-    pub journal: Vec<u8>,
+pub struct Buffers<'a> {
+    pub memory: Lent<'a>,
+    pub device: Lent<'a>,
+    pub journal: Lent<'a>,
 }
 
-impl Buffers {
+impl<'a> Buffers<'a> {
     // Empty ones, with room for all that a script may ask for.
-    pub fn new(alloc: Global) -> Result<Buffers, AllocError> {
-        Ok(Buffers {
-            memory: Vec::with_capacity(alloc, MEMORY as usize)?,
-            device: Vec::with_capacity(alloc, MEMORY as usize)?,
-            journal: Vec::with_capacity(alloc, JOURNAL as usize)?,
-        })
+    pub fn new(
+        memory: &'a mut [u8; MEMORY],
+        device: &'a mut [u8; MEMORY],
+        journal: &'a mut [u8; JOURNAL],
+    ) -> Buffers<'a> {
+        Buffers {
+            memory: Lent::new(memory),
+            device: Lent::new(device),
+            journal: Lent::new(journal),
+        }
     }
 
     // Fills all three anew.
-    pub fn fill(&mut self, setup: &Setup) -> Result<(), AllocError> {
-        fill(&mut self.memory, setup.memory, setup.seed)?;
-        fill(&mut self.device, setup.device, setup.seed)?;
-        fill(&mut self.journal, setup.journal, setup.seed)
+    pub fn fill(&mut self, setup: &Setup) {
+        fill(&mut self.memory, setup.memory, setup.seed);
+        fill(&mut self.device, setup.device, setup.seed);
+        fill(&mut self.journal, setup.journal, setup.seed);
     }
 
     // The bytes of one.
     pub fn bytes(&mut self, buffer: Buffer) -> &mut [u8] {
         match buffer {
-            Buffer::Memory => self.memory.as_mut_slice(),
-            Buffer::Device => self.device.as_mut_slice(),
-            Buffer::Journal => self.journal.as_mut_slice(),
+            Buffer::Memory => &mut self.memory,
+            Buffer::Device => &mut self.device,
+            Buffer::Journal => &mut self.journal,
         }
     }
 }
 
 // Byte i is (seed * (i + 1) * 40503 / 128) mod 256, which is in the fifteen lowest bits of the product.
-fn fill(buffer: &mut Vec<u8>, len: usize, seed: u16) -> Result<(), AllocError> {
+fn fill(buffer: &mut Lent, len: usize, seed: u16) {
     let step = u32::from(seed).wrapping_mul(40_503);
     let mut product: u32 = 0;
-    buffer.resize(len, 0)?;
-    for byte in buffer.as_mut_slice() {
+    buffer.resize(len);
+    for byte in buffer.iter_mut() {
         product = product.wrapping_add(step);
         *byte = (product / 128 % 256) as u8;
     }
-    Ok(())
 }

@@ -1,6 +1,6 @@
 // The commands, and how a line is read as one.
 use crate::assembling::Assembly;
-use crate::buffers::{Buffer, Setup};
+use crate::buffers::{Buffer, JOURNAL, Setup};
 use crate::encodings::instruction;
 use crate::line::Fields;
 use crate::machines::tables;
@@ -10,7 +10,7 @@ use instruction::Instruction;
 use map::Map;
 
 // The most bytes that most texts may have, and that a buffer to write in may have.
-const ROOM: u32 = 65_600;
+pub const ROOM: usize = 65_600;
 
 // A command, with what its fields say. A list is read when it is needed.
 #[derive(Clone, Copy)]
@@ -72,7 +72,7 @@ impl<'a> Command<'a> {
     fn named(name: &[u8], fields: &mut Fields<'a>) -> Option<Command<'a>> {
         Some(match name {
             b"new" => Command::New(Setup::read(fields)?),
-            b"poke" => Command::Poke(fields.read()?, fields.size(94_300)?, fields.text()?),
+            b"poke" => Command::Poke(fields.read()?, fields.size(JOURNAL)?, fields.text()?),
             b"regs" => Command::Regs(fields.words()?),
             b"cursor" => Command::Cursor(fields.read()?, fields.read()?),
             b"tables" => Command::Tables(tables(fields)?),
@@ -109,5 +109,5 @@ fn repeated_text<'a>(fields: &mut Fields) -> Option<Command<'a>> {
 
 // A text that is no longer than most may be.
 pub fn short_text<'a>(fields: &mut Fields<'a>) -> Option<Text<'a>> {
-    fields.text()?.at_most(ROOM as usize)
+    fields.text()?.at_most(ROOM)
 }

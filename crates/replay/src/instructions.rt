@@ -1,8 +1,8 @@
 // Words and instructions: decoded, printed, encoded from fields. Nothing here looks at the machine.
-use crate::answers::{Answer, blank, write_filled, write_refusal};
+use crate::answers::{Answer, write_filled, write_refusal};
+use crate::rooms::Rooms;
 use base::Refusal;
 use instruction::Instruction;
-use std::alloc::Global;
 use std::io;
 use std::io::Write;
 
@@ -40,11 +40,11 @@ pub fn decode<W: Write>(word: u16, out: &mut W) -> io::Result<()> {
 }
 
 // The same in a buffer of this length. A word that is no instruction has nothing to show.
-pub fn print<W: Write>(word: u16, room: usize, out: &mut W, alloc: Global) -> io::Result<()> {
+pub fn print<W: Write>(word: u16, len: usize, rooms: &mut Rooms, out: &mut W) -> io::Result<()> {
     if let Err(refusal) = instruction::decode(word) {
         return write_refusal(refusal, out);
     }
-    let mut buffer = blank(room, alloc)?;
-    let answer = Answer(printer::print_word(word, buffer.as_mut_slice()));
-    write_filled(answer, buffer.as_slice(), out, alloc)
+    let buffer = rooms.bytes.blank(len);
+    let answer = Answer(printer::print_word(word, buffer));
+    write_filled(answer, buffer, out)
 }

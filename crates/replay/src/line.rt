@@ -1,12 +1,11 @@
 // The fields of a line, parted by exactly one space: none of them is empty, so that a space too many leaves a field that is
 // nothing. A field that is missing or wrong is read as `None`.
-ghost use Rattle.std.specs.Prelude.{◌≤◌, IfSome};
+ghost use Rattle.std.specs.Prelude.{◌≤◌, ◌<◌, length, IfSome};
 ghost use Rattle.std.specs.Iterator.{at_most};
 ghost use Rattle.replay.specs.Fields.{most_left};
 
 use crate::texts::Text;
 use labels::Label;
-use std::alloc::{AllocError, Global};
 
 // What is still to be read of a line.
 #[derive(Clone, Copy)]
@@ -74,8 +73,10 @@ impl<'a> Fields<'a> {
     }
 
     // The same, as the size of something.
-    pub fn size(&mut self, most: u32) -> Option<usize> {
-        Some(self.number(most)? as usize)
+    pub fn size(&mut self, most: usize) -> Option<usize>
+        ensures { IfSome result (λ n. n ≤ most) }
+    {
+        Some(decimal(self.next()?)? as usize).filter(|n| *n <= most)
     }
 
     // So many words.
@@ -92,20 +93,16 @@ impl<'a> Fields<'a> {
         Text::of(self.next()?)
     }
 
-    // All that is left, at most `most` fields; nothing where one of them is wrong.
-    pub fn list<T: FromField + Copy>(
-        self,
-        most: usize,
-        alloc: Global,
-    ) -> Result<Option<Vec<T>>, AllocError> {
-        let mut list = Vec::new(alloc);
+    // Writes all that is left to the front of this room, and answers how many; nothing where one of them is wrong, or too many are.
+    pub fn list<T: FromField + Copy>(self, room: &mut [T]) -> Option<usize>
+        ensures { IfSome result (λ n. n ≤ length room.new) }
+    {
+        let mut count = 0;
         for field in self {
-            match T::from_field(field) {
-                Some(item) if list.len() < most => list.push(item)?,
-                _ => return Ok(None),
-            }
+            *room.get_mut(count)? = T::from_field(field)?;
+            count += 1;
         }
-        Ok(Some(list))
+        Some(count)
     }
 }
 
@@ -148,8 +145,8 @@ impl FromField for Label {
     fn from_field(field: &[u8]) -> Option<Label> {
         let mut numbers = Fields::parted(field);
         let label = Label {
-            place: numbers.size(u32::MAX)?,
-            length: numbers.size(u32::MAX)?,
+            place: numbers.size(u32::MAX as usize)?,
+            length: numbers.size(u32::MAX as usize)?,
             address: numbers.read()?,
         };
         numbers.end()?;
@@ -167,6 +164,8 @@ fn decimal(digits: &[u8]) -> Option<u32> {
         .try_fold(0u32, |n, b| n.checked_mul(10)?.checked_add(digit(*b)?))
 }
 
-fn digit(b: u8) -> Option<u32> {
+fn digit(b: u8) -> Option<u32>
+    ensures { IfSome result (λ d. d < 10) }
+{
     char::from(b).to_digit(10)
 }

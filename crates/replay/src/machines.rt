@@ -1,17 +1,15 @@
 // The machine and its journal: raw from the line, by the rules, and shown. Each function does what a command says, and gives its
 // answer.
 use crate::adler::adler;
-use crate::answers::{
-    Answer, Maybe, Walk, blank, changed, mark_before, stepped, stored, write_filled,
-};
+use crate::answers::{Answer, Maybe, Walk, changed, mark_before, stepped, stored, write_filled};
 use crate::buffers::{Buffer, Buffers, Setup};
 use crate::line::Fields;
 use crate::script::Script;
 use crate::texts::Text;
+use crate::words::{WORDS, Words};
 use machine::Registers;
 use map::{Device, Map, Region};
 use memory::Stored;
-use std::alloc::AllocError;
 use std::io;
 use std::io::Write;
 
@@ -34,12 +32,12 @@ fn pairs(fields: &mut Fields) -> Option<[(u16, u16); 8]> {
 }
 
 // Commands of the language itself, which change what is lent and the state as they like.
-impl Script {
+impl Script<'_> {
     // A zero state, and new buffers.
-    pub fn renew(&mut self, setup: &Setup) -> Result<&'static str, AllocError> {
-        self.buffers.fill(setup)?;
+    pub fn renew(&mut self, setup: &Setup) -> &'static str {
+        self.buffers.fill(setup);
         self.state = journal::new(setup.debug);
-        Ok("ok")
+        "ok"
     }
 
     // Bytes that the host pokes into a buffer.
@@ -71,7 +69,7 @@ impl Script {
 }
 
 // Bytes and words, by the memory part alone.
-impl Script {
+impl Script<'_> {
     // The byte at an address.
     pub fn byte(&self, at: u16) -> Maybe {
         let Buffers { memory, device, .. } = &self.buffers;
@@ -107,7 +105,7 @@ impl Script {
 }
 
 // By the rules of the host. Some of these differ in the function that they call alone: a closure around that call would be longer.
-impl Script {
+impl Script<'_> {
     // A region protected.
     pub fn protect(&mut self, start: u16, len: u16) -> Answer<&'static str> {
         let Buffers {
@@ -139,22 +137,26 @@ impl Script {
         changed(host::set_register(&mut self.state, device, journal, number, value))
     }
 
-    // A program loaded.
-    pub fn load(&mut self, words: &[u16]) -> Answer<&'static str> {
+    // A program loaded, if its words are right.
+    pub fn load(&mut self, words: Words) -> Option<Answer<&'static str>> {
+        let room = self.rooms.words.first(WORDS);
+        let count = words.write(room)?;
+        let words = &room[..count];
         let Buffers {
             memory,
             device,
             journal,
         } = &mut self.buffers;
-        changed(host::write_program(&mut self.state, memory, device, journal, words))
+        let answer = host::write_program(&mut self.state, memory, device, journal, words);
+        Some(changed(answer))
     }
 
     // So many bytes from an address on, in a buffer of this length.
     pub fn read<W: Write>(
-        &self,
+        &mut self,
         start: u16,
         size: u32,
-        room: usize,
+        len: usize,
         out: &mut W,
     ) -> io::Result<()> {
         let Buffers {
@@ -162,7 +164,7 @@ impl Script {
             device,
             journal,
         } = &self.buffers;
-        let mut buffer = blank(room, self.alloc)?;
+        let buffer = self.rooms.bytes.blank(len);
         let answer = host::read_out(
             self.state,
             memory,
@@ -170,14 +172,14 @@ impl Script {
             journal,
             start,
             size as usize,
-            buffer.as_mut_slice(),
+            buffer,
         );
-        write_filled(Answer(answer), buffer.as_slice(), out, self.alloc)
+        write_filled(Answer(answer), buffer, out)
     }
 }
 
 // Steps, forwards and back.
-impl Script {
+impl Script<'_> {
     // One step.
     pub fn step(&mut self) -> Answer<&'static str> {
         let Buffers {
@@ -220,7 +222,7 @@ impl Script {
 }
 
 // All of it in one line.
-impl Script {
+impl Script<'_> {
     // Registers, debug mode, both tables with their counts, the journal's cursor, and a checksum of each buffer.
     pub fn show<W: Write>(&self, out: &mut W) -> io::Result<()> {
         let machine = self.state.machine;
@@ -234,9 +236,9 @@ impl Script {
         write!(out, " {} ", map.devices)?;
         write_pairs(map.device.map(|d| (d.start, d.end)), out)?;
         write!(out, " {} {}", self.state.next, self.state.held)?;
-        write!(out, " {:08x}", adler(self.buffers.memory.as_slice()))?;
-        write!(out, " {:08x}", adler(self.buffers.device.as_slice()))?;
-        write!(out, " {:08x}", adler(self.buffers.journal.as_slice()))
+        write!(out, " {:08x}", adler(&self.buffers.memory))?;
+        write!(out, " {:08x}", adler(&self.buffers.device))?;
+        write!(out, " {:08x}", adler(&self.buffers.journal))
     }
 }
 

@@ -1,8 +1,6 @@
 // Texts: pairs of lower-case hex digits, or `-` for the empty one.
 ghost use Rattle.std.specs.Prelude.{◌≤◌};
 
-use std::alloc::{AllocError, Global};
-
 // A text as it stands in its line.
 #[derive(Clone, Copy)]
 pub struct Text<'a> {
@@ -34,11 +32,12 @@ impl<'a> Text<'a> {
         if self.len() <= most { Some(self) } else { None }
     }
 
-    // Its bytes.
-    pub fn bytes(self, alloc: Global) -> Result<Vec<u8>, AllocError> {
-        let mut bytes = vec![in alloc; 0; self.len()]?;
-        self.write(bytes.as_mut_slice());
-        Ok(bytes)
+    // Its bytes, spelt out in this room, which is long enough for the texts that it is lent for.
+    pub fn spell(self, room: &mut [u8]) -> &[u8] {
+        let len = self.len().min(room.len());
+        let bytes = &mut room[..len];
+        self.write(bytes);
+        bytes
     }
 
     // Writes its bytes over those from `at` on, if there are as many.
@@ -48,7 +47,8 @@ impl<'a> Text<'a> {
         Some(())
     }
 
-    fn write(self, to: &mut [u8]) {
+    // Writes its bytes over these, as far as both go.
+    pub fn write(self, to: &mut [u8]) {
         for (byte, pair) in to.iter_mut().zip(self.digits.chunks_exact(2)) {
             *byte = 16 * nibble(pair[0]) + nibble(pair[1]);
         }
