@@ -1,10 +1,11 @@
 -- Runs, trimming and sameness, at an index of a list.
-use Prim.Native.Nat.{◌+◌, ◌-◌, ◌*◌, ◌<◌, ◌≤◌, suc, ℕ}
+use Prim.Native.Nat.{◌+◌, ◌-◌, ◌*◌, ◌/◌, ◌%◌, ◌<◌, ◌≤◌, suc, ℕ}
 use lib.ListN.{drop, get_or, length, length-drop, take}
 use lib.Seq.{take_all, take-suc}
 use mathlib.Core.Bool.{Bool, false, not, true}
 use mathlib.Core.List.{List, [], ◌++◌, ◌∷◌}
 use mathlib.Core.Path.{◌∙◌, ◌≡◌, ap, refl, sym}
+use native.Mathlib.Nat.{div-add-mod'}
 use native.Mathlib.Numerals.{add-one}
 use native.Mathlib.Omega.{arith}
 use Rattle.base.proofs.SameLaws.{same-equal, same_self}
@@ -13,13 +14,14 @@ use Rattle.base.specs.Choice.{cond}
 use Rattle.std.specs.Prelude.{Option, Some, None, unwrap_or, position}
 use Rattle.std.specs.List.{AllWithin, HoldsAt, position_or_len, range_with_len}
 use Rattle.std.proofs.lemmas.List.{ext_get_or}
+use Rattle.std.proofs.lemmas.Nat.{mod_below}
 use Rattle.std.proofs.lemmas.List.FromFn.{get_or-range_with_len, length-range_with_len}
 use Rattle.std.proofs.Common.{MatchBool, cond as std-cond, nat_lt, subst}
 use borrow.Author.Tests.{ltb-false}
 use Rattle.text.specs.Parts.{drop_end, keep_if, run}
 
--- the library's sameness of bytes
-pub same_is : (t : Bool) (a b : List ℕ) → (t ≡ true → a ≡ b) → (a ≡ b → t ≡ true) → t ≡ same a b
+-- a test that says yes of two that are equal, and of no others
+same_is : (t : Bool) (a b : List ℕ) → (t ≡ true → a ≡ b) → (a ≡ b → t ≡ true) → t ≡ same a b
 same_is true a b f g = rw (f refl) (sym (same_self b))
 same_is false a b f g = go (same a b) refl
   where
@@ -27,22 +29,44 @@ same_is false a b f g = go (same a b) refl
     go true e = let z : false ≡ true = g (same-equal a b e) in cc
     go false e = refl
 
--- the bytes at `k` are the same, and so are those as far from the end
-abbrev pub Mirrored : (a b : List ℕ) (k : ℕ) → Type 0
-Mirrored a b k = (get_or a (length a - 1 - k) 0 ≡ get_or b (length a - 1 - k) 0) × (get_or a k 0 ≡ get_or b k 0)
+-- what `all` answers of the numbers below `m`
+abbrev pub AllSays : (t : Bool) (P : ℕ → Type 0) (m : ℕ) → Type 0
+AllSays t P m = MatchBool t (AllWithin P (range_with_len 0 m) 0 (length (range_with_len 0 m))) ((k : ℕ) × (k < length (range_with_len 0 m)) × HoldsAt (λ i. P i → ⊥) (range_with_len 0 m) k)
 
--- two of one length are the same where each number below the half is `Mirrored`, and differ where some number is not
-pub same_from_ends : (t : Bool) (a b : List ℕ) (m : ℕ) → length a ≡ length b → length a ≤ m * 2
-    → MatchBool t (AllWithin (Mirrored a b) (range_with_len 0 m) 0 (length (range_with_len 0 m))) ((k : ℕ) × (k < length (range_with_len 0 m)) × HoldsAt (λ i. Mirrored a b i → ⊥) (range_with_len 0 m) k)
-    → t ≡ same a b
-same_from_ends true a b m e l h = same_is true a b (λ _. ext_get_or 0 a b e at) (λ _. refl)
+says-each : (P : ℕ → Type 0) (m : ℕ) → AllSays true P m → (k : ℕ) → k < m → P k
+says-each P m h k i = subst P (omega (arith, get_or-range_with_len 0 m k 0 i)) (h k 0 (omega arith) (omega (arith, length-range_with_len 0 m)))
+
+-- where some number fails, it fails of `a` beside `b`, though each number holds of `a` beside itself: so the two differ
+says-differ : (P : List ℕ → ℕ → Type 0) (m : ℕ) (a b : List ℕ) → ((k : ℕ) → P a k) → AllSays false (P b) m → false ≡ same a b
+says-differ P m a b own h = same_is false a b (λ z. cc) (λ z. absurd (h.2 0 (subst (λ x. P x (get_or (range_with_len 0 m) h.0 0)) z (own _))))
+
+-- the two have the same byte at `k`
+abbrev pub AlikeAt : (a b : List ℕ) (k : ℕ) → Type 0
+AlikeAt a b k = get_or a k 0 ≡ get_or b k 0
+
+-- they are alike in the four bytes before the last `i` fours, and in the one at `i`
+abbrev pub Fours : (a b : List ℕ) (i : ℕ) → Type 0
+Fours a b i =
+    let e = length a - 4 * i in
+    AlikeAt a b (e - 1) × AlikeAt a b (e - 2) × AlikeAt a b (e - 3) × AlikeAt a b (e - 4) × AlikeAt a b i
+
+-- they are alike in the byte that is `i` from the end of what the fours leave at the front
+abbrev pub Rest : (a b : List ℕ) (i : ℕ) → Type 0
+Rest a b i = AlikeAt a b (length a % 4 - 1 - i)
+
+-- where some of the fours differ, so do the two
+pub fours-differ : (m : ℕ) (a b : List ℕ) → AllSays false (Fours a b) m → false ≡ same a b
+fours-differ m a b = says-differ (Fours a) m a b (λ k. (refl, refl, refl, refl, refl))
+
+-- where the fours are alike, the rest decides
+pub fours-alike : (t : Bool) (a b : List ℕ) → length a ≡ length b → AllSays true (Fours a b) (length a / 4) → AllSays t (Rest a b) (length a % 4) → t ≡ same a b
+fours-alike true a b e f h = same_is true a b (λ _. ext_get_or 0 a b e at) (λ _. refl)
   where
-    near : (k : ℕ) → k < m → Mirrored a b k
-    near k i = subst (Mirrored a b) (omega (arith, get_or-range_with_len 0 m k 0 i)) (h k 0 (omega arith) (omega (arith, length-range_with_len 0 m)))
-
-    at : (k : ℕ) → k < length a → get_or a k 0 ≡ get_or b k 0
-    at k i = grind (arith, near k, near (length a - 1 - k))
-same_from_ends false a b m e l h = same_is false a b (λ z. cc) (λ z. absurd (h.2 0 (subst (λ (x : List ℕ). Mirrored a x (get_or (range_with_len 0 m) h.0 0)) z (refl, refl))))
+    at : (k : ℕ) → k < length a → AlikeAt a b k
+    at k i =
+        let q = length a - 1 - k in
+        grind (arith, says-each (Rest a b) (length a % 4) h (length a % 4 - 1 - k), says-each (Fours a b) (length a / 4) f (q / 4), div-add-mod' q 4, mod_below q 4 (omega arith), div-add-mod' (length a) 4, mod_below (length a) 4 (omega arith))
+fours-alike false a b e f h = says-differ (Rest a) (length a % 4) a b (λ k. refl) h
 
 -- a run is no longer than the list
 pub run-le : (p : ℕ → Bool) (xs : List ℕ) → run p xs ≤ length xs

@@ -5,13 +5,25 @@ ghost use Rattle.text.specs.Parts.{equals, is_blank, drop_end, drop_front};
 
 use crate::blanks::is_blank;
 
-// Are the two the same bytes? Names of one length often begin alike and differ in a number at the end: so the end is compared first,
-// and the front beside it, for names that end alike.
+// Are the two the same bytes? Names of one length often begin alike and differ in a number at the end: so they are compared from the end
+// on, four bytes at a time, and with every four one at the front, for names that end alike.
 pub fn same(a: &[u8], b: &[u8]) -> bool
     ensures { result ≡ same a.now b.now }
 {
     let n = a.len();
-    n == b.len() && (0..n.div_ceil(2)).all(|i| a[n - 1 - i] == b[n - 1 - i] && a[i] == b[i])
+    if n != b.len() {
+        return false;
+    }
+    let by_fours = (0..n / 4).all(|i| {
+        let e = n - 4 * i;
+        a[e - 1] == b[e - 1]
+            && a[e - 2] == b[e - 2]
+            && a[e - 3] == b[e - 3]
+            && a[e - 4] == b[e - 4]
+            && a[i] == b[i]
+    });
+    let rest = n % 4;
+    by_fours && (0..rest).all(|i| a[rest - 1 - i] == b[rest - 1 - i])
 }
 
 // Without all bytes `b` at the end.
