@@ -45,8 +45,8 @@ pub enum StepAnswer {
     Stop,
 }
 
-// A step that is decided and not yet made: its answer, the registers after it, the bytes to be stored; for a refusal too, since a plan is
-// made for whatever machine `commit` is lent.
+// A step that is decided and not yet made: its answer, the registers after it, the bytes to be stored. For a refusal too: `commit` puts
+// them into whatever machine it is lent, which may be another than the one planned for.
 #[derive(Clone, Copy)]
 pub struct Plan {
     pub answer: Result<StepAnswer, Refusal>,
@@ -54,12 +54,13 @@ pub struct Plan {
     pub changes: Changes,
 }
 
-// What is not refused, with what changes of the registers: one gets a value, and then PC its own.
+// What is not refused, with what changes of the registers: one gets a value, and then PC its own. The register stands apart from the
+// answer: side by side, they are handed on as one number, which each step packs and unpacks.
 #[derive(Clone, Copy)]
 pub struct Move {
     pub answer: StepAnswer,
-    pub register: Register,
     pub value: u16,
     pub pc: u16,
+    pub register: Register,
     pub changes: Changes,
 }

@@ -20,7 +20,8 @@ use instruction::Register;
 use map::Map;
 use memory::Changes;
 
-// What a step comes to, of a machine in its parts. Nothing is stored, so that the bytes to be replaced can still be read.
+// What a step comes to, of a machine in its parts. Nothing is stored, so that the bytes to be replaced can still be read. The word is
+// read before it is handed on: with its question mark among the arguments, each step copies the map.
 #[tactic(auto, unfolding(crate::specs::Plan::plan, crate::specs::Plan::fetched))]
 pub fn move_of(s: &[u16; 8], mode: Mode, map: Map, mem: &[u8], dev: &[u8]) -> Result<Move, Refusal>
     ensures { Moves s.now result (λ g. plan (machine g mode map) (lent mem.now dev.now)) }
@@ -28,8 +29,9 @@ pub fn move_of(s: &[u16; 8], mode: Mode, map: Map, mem: &[u8], dev: &[u8]) -> Re
     if flag(s, 0) {
         return Ok(unmoved(s, StepAnswer::Stop));
     }
-    let word = memory::fetch_word(map, mem, dev, get(s, Register::PC))?;
-    act_on_word(s, mode, map, mem, dev, word.ok_or(Refusal::FetchUnmapped)?)
+    let found = memory::fetch_word(map, mem, dev, get(s, Register::PC))?;
+    let word = found.ok_or(Refusal::FetchUnmapped)?;
+    act_on_word(s, mode, map, mem, dev, word)
 }
 
 // Stores what a step moves: one register's value, and then that of PC, the sixth.
