@@ -21,7 +21,7 @@ use borrow.Author.Tests.{ltb-false}
 use Rattle.text.specs.Parts.{drop_end, keep_if, run}
 
 -- a test that says yes of two that are equal, and of no others
-same_is : (t : Bool) (a b : List ℕ) → (t ≡ true → a ≡ b) → (a ≡ b → t ≡ true) → t ≡ same a b
+pub same_is : (t : Bool) (a b : List ℕ) → (t ≡ true → a ≡ b) → (a ≡ b → t ≡ true) → t ≡ same a b
 same_is true a b f g = rw (f refl) (sym (same_self b))
 same_is false a b f g = go (same a b) refl
   where
